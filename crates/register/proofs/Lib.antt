@@ -1,0 +1,6 @@
+pub mod Cells
+pub mod Changes
+pub mod Lends
+pub mod Moves
+pub mod Places
+pub mod Scans
