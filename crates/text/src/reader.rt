@@ -62,7 +62,7 @@ impl<'a> Reader<'a> {
 
     // Passes the text, which has to stand here.
     pub fn literal<F: Form>(&mut self, text: &[u8]) -> Result<(), Malformed>
-        ensures { λ r. ⌜ ((G : Gram F) → Reads spells (lits (now (text .entry)) G) (λ _. G) (now (self .entry)) r (now (self .exit))) ⌝ }
+        ensures { λ r. ⌜ ((G : Gram F·Value) → Reads spells (lits (now (text .entry)) G) (λ _. G) (now (self .entry)) r (now (self .exit))) ⌝ }
     {
         for b in text {
             if self.at >= self.line.len() || self.line[self.at] != *b {
@@ -77,7 +77,7 @@ impl<'a> Reader<'a> {
 
     // Passes a number and the byte that has to end it.
     pub fn number<F: Form>(&mut self, end: NumberEnd) -> Result<u64, Malformed>
-        ensures { λ r. ⌜ ((K : ℕ → Gram F) → Reads spells (num (end-byte end) K) K (now (self .entry)) r (now (self .exit))) ⌝ }
+        ensures { λ r. ⌜ ((K : ℕ → Gram F·Value) → Reads spells (num (end-byte end) K) K (now (self .entry)) r (now (self .exit))) ⌝ }
     {
         let start = self.at;
         let Token::Number(ds) = self.peek() else {
@@ -100,7 +100,7 @@ impl<'a> Reader<'a> {
     }
 
     // The value, if its text ends where the line does.
-    pub fn end<F: Form + Copy>(&self, value: F) -> Result<F, Malformed>
+    pub fn end<F: Form>(&self, value: F::Value) -> Result<F::Value, Malformed>
         ensures { λ r. ⌜ Ends spells value (now (self .entry)) r ⌝ }
     {
         if self.at < self.line.len() {

@@ -6,4 +6,4 @@ use Rattle.text.proofs.cursor.Reader.literal.Given as given
 
 -- what is left of the text is expected next
 abbrev pub Inv-loop-b : given.InvT-loop-b
-Inv-loop-b g l = (G : Gram (g .F .Denot)) (line : List ℕ) → At (g .F·Form .spells) (lits (l .text) G) line (l .entry .self) → At (g .F·Form .spells) (lits (drop (l .b-index) (l .text)) G) line (l .self)
+Inv-loop-b g l = (G : Gram (g .F·Value .Denot)) (line : List ℕ) → At (g .F·Form .spells) (lits (l .text) G) line (l .entry .self) → At (g .F·Form .spells) (lits (drop (l .b-index) (l .text)) G) line (l .self)
