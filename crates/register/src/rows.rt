@@ -52,16 +52,7 @@ impl<'a> RowRegister<'a> {
     pub fn rows(&self) -> &[Row]
         ensures { λ r. ⌜ now r ≡ now (now (self .entry) .rows) ⌝ }
     {
-        self.rows
-    }
-
-    // The caller's rows again, as the register leaves them.
-    pub fn into_rows(self) -> &'a mut [Row]
-        ensures value { λ r. ⌜ now r ≡ now (self .entry .rows) ⌝ }
-        ensures named { λ r. ⌜ name r ≡ name (self .entry .rows) ⌝ }
-    {
-        let RowRegister { rows, usable: _ } = self;
-        rows
+        &*self.rows
     }
 }
 
