@@ -21,7 +21,7 @@ use Rattle.register.specs.Places.{no-row, Placed}
 use Rattle.register.specs.Rules.{limit, lawful, names, balance-of, total-of, shares, Moved, figured, change, gain-free, lose-held, if-open, figures-after, with-figures, deposited, moved, settled}
 use Rattle.register.specs.Laws.{Has, Others-stay, Other-totals-stay, Done, Settlement, Movers-law, Movers-move-what-they-name}
 use Rattle.register.proofs.Places.{named, balance-at, balance-le, lawful-ascending, placed-change, placed-le, placed-total, shares-other, total-le}
-use Rattle.register.proofs.Scans.{lawful-set}
+use Rattle.register.proofs.Sets.{lawful-set}
 
 -- new shares for a pair, from those that it has
 abbrev pub Shares : Type 0

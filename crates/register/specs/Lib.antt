@@ -1,5 +1,3 @@
-pub mod Cells
-pub mod Checks
 pub mod Laws
 pub mod Places
 pub mod Rules

@@ -6,10 +6,3 @@ pub struct Row {
     pub free: u64,
     pub held: u64,
 }
-
-// Free and held shares of one pair.
-#[derive(Clone, Copy)]
-pub struct Holding {
-    pub free: u64,
-    pub held: u64,
-}

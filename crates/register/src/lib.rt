@@ -1,10 +1,7 @@
-// A register of holdings: what it means, and two registers that have that meaning.
+// A register of holdings: what it means, and the movers that any register is made of.
 pub mod contract;
 pub mod fault;
-pub mod grid;
 pub mod holding;
 pub mod laws;
-mod movers;
-pub mod rows;
-mod scan;
-mod store;
+pub mod movers;
+pub mod store;

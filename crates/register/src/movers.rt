@@ -18,7 +18,7 @@ use super::fault::RegisterFault;
 use super::store::Store;
 
 // What an issue's total may not pass.
-pub(crate) const LIMIT: u64 = 1_000_000_000_000;
+pub const LIMIT: u64 = 1_000_000_000_000;
 
 // The movers that look at one pair alone.
 #[derive(Clone, Copy)]
@@ -56,7 +56,7 @@ fn moved_figures(m: Move, q: u64, free: u64, held: u64) -> Result<(u64, u64), Re
     }
 }
 
-pub(crate) fn balance<T: Store>(t: &T, account: u64, issue: u64) -> Option<(u64, u64)>
+pub fn balance<T: Store>(t: &T, account: u64, issue: u64) -> Option<(u64, u64)>
     ensures { λ r. ⌜ r ≡ balance-of account issue (stored (now (t .entry))) ⌝ }
 {
     match t.find(account, issue) {
@@ -65,12 +65,7 @@ pub(crate) fn balance<T: Store>(t: &T, account: u64, issue: u64) -> Option<(u64,
     }
 }
 
-pub(crate) fn deposit<T: Store>(
-    t: &mut T,
-    account: u64,
-    issue: u64,
-    q: u64,
-) -> Result<(), RegisterFault>
+pub fn deposit<T: Store>(t: &mut T, account: u64, issue: u64, q: u64) -> Result<(), RegisterFault>
     ensures answers { λ r. ⌜ r ≡ answer (deposited account issue q (stored (now (t .entry)))) ⌝ }
     ensures leaves { λ _. ⌜ stored (now (t .exit)) ≡ after (stored (now (t .entry))) (deposited account issue q (stored (now (t .entry)))) ⌝ }
     ensures stays { λ _. ⌜ rest (now (t .exit)) ≡ rest (now (t .entry)) ⌝ }
@@ -89,7 +84,7 @@ pub(crate) fn deposit<T: Store>(
 }
 
 // Withdraw, hold or release.
-pub(crate) fn shift<T: Store>(
+pub fn shift<T: Store>(
     t: &mut T,
     m: Move,
     account: u64,
@@ -110,7 +105,7 @@ pub(crate) fn shift<T: Store>(
     Ok(())
 }
 
-pub(crate) fn settle<T: Store>(
+pub fn settle<T: Store>(
     t: &mut T,
     seller: u64,
     buyer: u64,

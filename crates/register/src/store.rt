@@ -10,7 +10,7 @@ ghost use Rattle.register.specs.declared.holding.Row.{Row};
 ghost use Rattle.register.specs.Places.{Placed, no-row};
 ghost use Rattle.register.specs.Rules.{limit, lawful, balance-of, total-of, figured};
 
-pub(crate) trait Store {
+pub trait Store {
     ghost stored: { Self → List Row };
 
     // What each `impl` shows: the rows keep the rules.

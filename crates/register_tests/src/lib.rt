@@ -1,13 +1,13 @@
 // The registers at their edges, and what a caller's rows hold once a register over them is let go.
 ghost use mathlib.Core.Path.{_≡_};
 ghost use mathlib.Core.Bool.{true, false};
-ghost use Rattle.register.specs.Checks.{acceptable};
+ghost use Rattle.rows.specs.Checks.{acceptable};
 ghost use Rattle.register.specs.Rules.{answer, after, settled};
 use register::contract::Register;
 use register::fault::RegisterFault;
 use register::holding::Row;
-use register::rows::RowRegister;
-use register::rows::RowRegisterRegister;
+use rows::RowRegister;
+use rows::RowRegisterRegister;
 
 // Settles over the caller's rows: they hold the new shares, or, where the check turns them down, what they held.
 pub fn settle_in_rows(
@@ -28,9 +28,8 @@ pub fn settle_in_rows(
 #[cfg(test)]
 mod tests {
     use super::*;
-    use register::grid::Grid;
-    use register::grid::GridRegister;
-    use register::rows;
+    use grid::Grid;
+    use grid::GridRegister;
     use std::test::*;
 
     const LIMIT: u64 = 1_000_000_000_000;

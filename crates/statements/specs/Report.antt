@@ -8,7 +8,7 @@ use Rattle.std.specs.declared.result.Result.{Result}
 use Rattle.std.specs.declared.result.Result.the-variants.{Ok, Err}
 use Rattle.register.specs.declared.fault.RegisterFault.{RegisterFault}
 use Rattle.register.specs.declared.holding.Row.{Row}
-use Rattle.register.specs.Checks.{checked}
+use Rattle.rows.specs.Checks.{checked}
 use Rattle.register.specs.Rules.{fault-number}
 use Rattle.text.specs.declared.form.Malformed.{Malformed}
 use Rattle.text.specs.Columns.{Only, Column}

@@ -1,9 +1,9 @@
 use borrow.Author.Needs.{needs}
 use mathlib.Core.Path.{_≡_, sym, ap, _∙_}
 use mathlib.Core.Bool.{true}
-use Rattle.register.specs.Checks.{acceptable, meant}
+use Rattle.rows.specs.Checks.{acceptable, meant}
 use Rattle.register.specs.Rules.{answer, after, settled}
-use Rattle.register.proofs.Lends.{meant-before, meant-after, untouched}
+use Rattle.rows.proofs.Lends.{meant-before, meant-after, untouched}
 use Rattle.register_tests.proofs.settle_in_rows.Needs as need
 
 pub returns : need.returns
