@@ -1,0 +1,11 @@
+pub mod Changes
+pub mod Firsts
+pub mod Lists
+pub mod Ranking
+pub mod Ranks
+pub mod Reductions
+pub mod Strips
+pub mod Tapes
+pub mod Trades
+pub mod Validity
+pub mod Words
