@@ -1,0 +1,10 @@
+pub mod Parts
+pub mod Sums
+pub mod Prices
+pub mod Openings
+pub mod Pairs
+pub mod Turns
+pub mod Fairness
+pub mod Words
+pub mod Alike
+pub mod Issues
