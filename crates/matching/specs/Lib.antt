@@ -1,0 +1,5 @@
+pub mod Walk
+pub mod Attempt
+pub mod Rounds
+pub mod Listing
+pub mod Laws
