@@ -22,7 +22,7 @@ use Rattle.orders.proofs.Lists.{in-kept, kept-in, kept-kept, kept-alike}
 use Rattle.orders.proofs.Trades.{find-other, two-orders}
 use Rattle.matching.specs.Walk.{faces, candidates, Part, parts}
 use Rattle.matching.specs.Attempt.{trade-of, trades-of, attempt}
-use Rattle.matching.specs.Laws.{Quiet, of-issue}
+use Rattle.matching.specs.Laws.{Quiet-local, of-issue}
 
 -- ---- an attempt sees the orders of its issue alone
 own-issue : (i r l : Bool) → (i && ((i && r) && l)) ≡ ((i && r) && l)
@@ -40,7 +40,7 @@ attempt-local j b c same a e =
     ap (λ os. trades-of a (parts (a .term) (a .left) (in-rank ahead os))) (sym (faces-local a b) ∙ ap (kept-by (faces a)) here ∙ faces-local a c)
 
 -- a quiet issue stays quiet while its orders stay
-pub quiet-local : (j : ℕ) (b c : Book) → of-issue j b ≡ of-issue j c → Quiet j b → Quiet j c
+pub quiet-local : Quiet-local
 quiet-local j b c same q =
     record {
       no-cross = λ x y ix iy px py. q .no-cross x y (back x ix (px .issue)) (back y iy (py .issue)) px py;

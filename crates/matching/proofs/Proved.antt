@@ -14,16 +14,23 @@ use Rattle.std.specs.declared.option.Option.{Option}
 use Rattle.std.specs.declared.option.Option.the-variants.{Some, None}
 use Rattle.orders.specs.declared.order.Order.{Order}
 use Rattle.orders.specs.declared.order.Trade.{Trade}
+use Rattle.orders.specs.declared.order.Side.{Side}
+use Rattle.orders.specs.declared.order.Side.the-variants.{Buy, Sell}
 use Rattle.orders.specs.Orders.{Valid}
+use Rattle.orders.specs.Rank.{ahead}
+use Rattle.orders.specs.Search.{In}
 use Rattle.orders.specs.Book.{Book, stamp-of, after}
 use Rattle.orders.specs.Laws.{Ascending, Sound, All-fair}
-use Rattle.orders.proofs.Ranking.{distinct-kept}
+use Rattle.orders.proofs.Lists.{in-all, in-kept}
+use Rattle.orders.proofs.Ranking.{distinct-kept, in-ranked}
 use Rattle.orders.proofs.Changes.{length-without}
 use Rattle.book.proofs.Tables.{tables-alike}
 use Rattle.orders.proofs.Trades.{sound-after, count-trades, after-append, fair-append}
-use Rattle.matching.specs.Attempt.{attempt, attempt-of}
+use Rattle.matching.specs.Walk.{faces, candidates, Part, parts}
+use Rattle.matching.specs.Attempt.{trade-of, trades-of, attempt, attempt-of}
 use Rattle.matching.specs.Rounds.{ready, active-in, Rounds, round, rounds, all-rounds}
-use Rattle.matching.specs.Laws.{Trades-well, Attempts-fair, Quiet, Rounds-settle, dropped, Calls-fit, Rows-free}
+use Rattle.matching.specs.Laws.{Trades-well, At-waiting-price, Attempts-fair, Quiet, Rounds-settle, dropped, Calls-fit, Rows-free}
+use Rattle.matching.proofs.Walking.{parts-all}
 use Rattle.matching.proofs.Fairness.{attempt-fair, fair-attempt}
 use Rattle.matching.proofs.Settling.{Acts, active-acts, live-found, one-round, quiet-from-none, rounds-none, rounds-some}
 use Rattle.matching.proofs.Wholes.{Whole, whole-trades, attempt-whole}
@@ -32,10 +39,25 @@ use Rattle.matching.proofs.Issues.{quiet-local, issue-after, attempt-issue}
 well : (b : Book) (ts : List Trade) → Sound b → All-fair ts b → Whole b (after ts b) → Trades-well b ts
 well b ts s f w = record { fair = f; whole = whole-trades ts b s f w; sound = sound-after ts b s; few = count-trades ts b f }
 
+-- each trade of an attempt is at the waiting order's price
+at-price : (s : Side) (a o : Order) (b : Book) (q : ℕ) → In o b → At-waiting-price a b (trade-of s a o q)
+at-price Buy a o b q i = record { waiting = o; live = i; price = refl; sides = inl (refl, refl) }
+at-price Sell a o b q i = record { waiting = o; live = i; price = refl; sides = inr (refl, refl) }
+
+all-at-price : (a : Order) (b : Book) (ps : List Part) → Every-one (λ p. In (p .from) b) ps → Every-one (At-waiting-price a b) (trades-of a ps)
+all-at-price a b [] h = tt
+all-at-price a b (p ∷ ps) h = (at-price (a .side) a (p .from) b (p .quantity) (h .0), all-at-price a b ps (h .1))
+
 pub attempts-fair : Attempts-fair
 attempts-fair a b s i w =
     let l = live-found b s a i in
-    well b (attempt a b) s (attempt-fair a b s l w) (attempt-whole a b s l w)
+    let fair = attempt-fair a b s l w in
+    let walked = in-all (λ o. In o b) (candidates a b) (λ o j. in-kept (faces a) b o (in-ranked ahead (kept-by (faces a) b) o j) .0) in
+    record {
+      trades = well b (attempt a b) s fair (attempt-whole a b s l w);
+      others = λ j ne. issue-after (a .issue) j (attempt a b) b ne fair (attempt-issue (a .issue) a b refl);
+      prices = all-at-price a b (parts (a .term) (a .left) (candidates a b)) (parts-all (λ o. In o b) (a .term) (a .left) (candidates a b) walked);
+    }
 
 -- ---- what holds of no trade, and of one round and the rounds after it, holds of rounds
 module _ (i : ℕ) (Q : Book → List Trade → Type 0)

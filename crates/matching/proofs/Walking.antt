@@ -8,6 +8,7 @@ use native.Mathlib.Omega.{arith}
 use lib.Dec.{eqb, leb}
 use lib.ListN.{length, set}
 use Rattle.std.proofs.shelf.Tests.{cond-true, cond-false, cond-both, cases-bool, eq-eqb, ne-eqb, eqb-true, eqb-false, le-leb, lt-leb, leb-true, not-from-true}
+use Rattle.std.proofs.shelf.Elements.{all-kept-by}
 use Rattle.std.specs.Options.{isSome}
 use Rattle.std.specs.shelf.Lists.{All as Every-one}
 use Rattle.std.specs.declared.option.Option.{Option}
@@ -202,3 +203,22 @@ all-made a cs t h = ap (λ z. parts z (a .left) cs) t ∙ cond-true (eqb (amount
 
 pub all-failed : (a : Order) (cs : List Order) → a .term ≡ All → eqb (amount (walk (a .left) cs)) (a .left) ≡ false → parts (a .term) (a .left) cs ≡ []
 all-failed a cs t h = ap (λ z. parts z (a .left) cs) t ∙ cond-false (eqb (amount (walk (a .left) cs)) (a .left)) (walk (a .left) cs) [] h
+
+-- ---- each part comes from one of the orders walked
+module _ (P : Order → Type 0) where
+  walk-all : (w : ℕ) (os : List Order) → Every-one P os → Every-one (λ p. P (p .from)) (walk w os)
+  walk-all w [] h = tt
+  walk-all w (o ∷ os) h =
+      let q = gives (o .term) (o .left) w in
+      let rest = walk-all (w - q) os (h .1) in
+      cond-both (eqb q 0) (walk (w - q) os) (part o q ∷ walk (w - q) os) (Every-one (λ p. P (p .from))) (λ _. rest) (λ _. (h .0, rest))
+
+  least-all : (m w : ℕ) (os : List Order) → Every-one P os → (found : Option Order) → first-giving m w os ≡ found → Every-one (λ p. P (p .from)) (least-parts w found os)
+  least-all m w os h None e = tt
+  least-all m w os h (Some o) e =
+      (giving-all P m w os h o e .0, walk-all (w - gives (o .term) (o .left) w) (without (o .number) os) (all-kept-by (λ x. not (eqb (x .number) (o .number))) P os h))
+
+  pub parts-all : (t : Term) (w : ℕ) (os : List Order) → Every-one P os → Every-one (λ p. P (p .from)) (parts t w os)
+  parts-all Plain w os h = walk-all w os h
+  parts-all All w os h = cond-both (eqb (amount (walk w os)) w) (walk w os) [] (Every-one (λ p. P (p .from))) (λ _. walk-all w os h) (λ _. tt)
+  parts-all (Least m) w os h = least-all m w os h (first-giving m w os) refl

@@ -6,7 +6,7 @@ use mathlib.Core.Logic.{_⊎_}
 use Prim.Native.Nat.{ℕ, _+_, _≤_, _<_}
 use lib.Dec.{eqb}
 use lib.ListN.{length}
-use Rattle.std.specs.shelf.Lists.{kept-by}
+use Rattle.std.specs.shelf.Lists.{All as Every-one, kept-by}
 use Rattle.std.specs.declared.option.Option.{Option}
 use Rattle.std.specs.declared.option.Option.the-variants.{Some, None}
 use Rattle.orders.specs.declared.order.Order.{Order}
@@ -23,6 +23,9 @@ use Rattle.matching.specs.Attempt.{attempt, attempt-of}
 use Rattle.matching.specs.Rounds.{ready, active-in, Rounds, rounds, all-rounds}
 
 -- Attempts.
+abbrev pub of-issue : ℕ → Book → Book
+of-issue j b = kept-by (λ o. eqb (o .issue) j) b
+
 -- the order n takes part in the trade
 abbrev pub is-of : ℕ → Trade → Bool
 is-of n t = eqb (t .buy) n || eqb (t .sell) n
@@ -43,8 +46,21 @@ pub record Trades-well (b : Book) (ts : List Trade) : Type 0 where
   pub sound : Sound (after ts b)
   pub few : length ts + length (after ts b) ≤ length b
 
+-- the trade is one of the active order a with an order of the book, at the price of that order
+pub record At-waiting-price (a : Order) (b : Book) (t : Trade) : Type 0 where
+  pub waiting : Order
+  pub live : In waiting b
+  pub price : t .price ≡ waiting .price
+  pub sides : ((t .buy ≡ a .number) × (t .sell ≡ waiting .number)) ⊎ ((t .sell ≡ a .number) × (t .buy ≡ waiting .number))
+
+pub record Attempted (a : Order) (b : Book) (ts : List Trade) : Type 0 where
+  pub trades : Trades-well b ts
+  pub prices : Every-one (At-waiting-price a b) ts
+  -- the orders of other issues stay as they are
+  pub others : (j : ℕ) → (a .issue ≡ j → ⊥) → of-issue j (after ts b) ≡ of-issue j b
+
 abbrev pub Attempts-fair : Type 0
-Attempts-fair = (a : Order) (b : Book) → Sound b → In a b → a .working ≡ true → Trades-well b (attempt a b)
+Attempts-fair = (a : Order) (b : Book) → Sound b → In a b → a .working ≡ true → Attempted a b (attempt a b)
 
 -- Rounds.
 pub record Plain-order (i : ℕ) (s : Side) (o : Order) : Type 0 where
@@ -58,8 +74,9 @@ pub record Quiet (i : ℕ) (b : Book) : Type 0 where
   pub no-cross : (x y : Order) → In x b → In y b → Plain-order i Buy x → Plain-order i Sell y → x .price < y .price
   pub none-ready : (o : Order) → In o b → o .issue ≡ i → o .working ≡ true → (o .term ≡ Plain → ⊥) → attempt o b ≡ []
 
-abbrev pub of-issue : ℕ → Book → Book
-of-issue j b = kept-by (λ o. eqb (o .issue) j) b
+-- whether an issue is quiet is a matter of its own orders alone
+abbrev pub Quiet-local : Type 0
+Quiet-local = (j : ℕ) (b c : Book) → of-issue j b ≡ of-issue j c → Quiet j b → Quiet j c
 
 -- the rounds leave a quiet issue, each of them trades, and the orders of other issues stay as they are
 pub record Settles (i : ℕ) (b : Book) (r : Rounds) : Type 0 where
@@ -80,13 +97,15 @@ abbrev pub dropped : Option ℕ → Book → Book
 dropped None b = b
 dropped (Some n) b = without n b
 
-pub record Fits (n : ℕ) (drop : Option ℕ) (i : ℕ) (b : Book) : Type 0 where
-  pub sound : Sound (dropped drop (after (attempt-of n b) b))
-  pub few : (length (attempt-of n b) + length (all-rounds i (dropped drop (after (attempt-of n b) b)) .trades))
-      + length (after (all-rounds i (dropped drop (after (attempt-of n b) b)) .trades) (dropped drop (after (attempt-of n b) b))) ≤ length b
+pub record Call-fits (b : Book) (ts : List Trade) (c : Book) (us : List Trade) : Type 0 where
+  pub sound : Sound c
+  pub few : (length ts + length us) + length (after us c) ≤ length b
 
 abbrev pub Calls-fit : Type 0
-Calls-fit = (n : ℕ) (drop : Option ℕ) (i : ℕ) (b : Book) → Sound b → Fits n drop i b
+Calls-fit = (n : ℕ) (drop : Option ℕ) (i : ℕ) (b : Book) → Sound b →
+    let ts : List Trade = attempt-of n b in
+    let c : Book = dropped drop (after ts b) in
+    Call-fits b ts c (all-rounds i c .trades)
 
 -- The row decides nothing: tables that hold the same orders, in whatever places, trade alike.
 pub record Trade-alike (b c : Book) : Type 0 where

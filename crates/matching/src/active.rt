@@ -12,6 +12,7 @@ use crate::listed::BLANK;
 use crate::listed::ROWS;
 use crate::listing::list;
 use crate::ready::ready_order;
+use book::table::Table;
 use orders::order::Order;
 use orders::order::Side;
 use orders::rank::OrderRanked;
@@ -20,7 +21,6 @@ use orders::ranked::Entries;
 use orders::ranked::first;
 use orders::sides::is_plain_in;
 use orders::strip::STRIP;
-use book::table::Table;
 
 // The working plain orders of an issue on a side.
 #[derive(Drop)]

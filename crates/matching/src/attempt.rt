@@ -13,9 +13,9 @@ use crate::listed::BLANK;
 use crate::listed::ROWS;
 use crate::listing::list;
 use crate::plan::plan;
+use book::table::Table;
 use orders::order::Order;
 use orders::order::Trade;
-use book::table::Table;
 
 // Makes the trades one after another.
 fn make(table: &mut Table, trades: &[Trade])

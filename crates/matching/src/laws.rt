@@ -1,9 +1,14 @@
 // What is true of attempts and rounds: each law is the contract of a function.
-ghost use Rattle.matching.specs.Laws.{Attempts-fair, Rounds-settle, Calls-fit, Rows-free};
+ghost use Rattle.matching.specs.Laws.{Attempts-fair, Quiet-local, Rounds-settle, Calls-fit, Rows-free};
 
-// The trades of a working order's attempt are fair, and all orders trade all that they have left or nothing.
+// The trades of a working order's attempt are fair and at the waiting orders' prices, and all orders trade all that they have left or nothing.
 pub fn attempts_fair()
     ensures { λ _. ⌜ Attempts-fair ⌝ }
+{}
+
+// Whether an issue is quiet is a matter of its own orders alone.
+pub fn quiet_local()
+    ensures { λ _. ⌜ Quiet-local ⌝ }
 {}
 
 // Each round trades, rounds end, and they leave a quiet issue and the other issues as they were.

@@ -13,6 +13,7 @@ ghost use Rattle.matching.specs.Listing.{Lists, facing, attempt-over, ready-ov
 use crate::listed::Listed;
 use crate::walk::fills;
 use crate::walk::first_to_give;
+use book::table::Table;
 use orders::order::Order;
 use orders::order::Side;
 use orders::order::Term;
@@ -22,7 +23,6 @@ use orders::ranked::Entries;
 use orders::ranked::first;
 use orders::sides::are_opposed;
 use orders::sides::is_special;
-use book::table::Table;
 
 // Some listed order gives the active order a part of at least m.
 fn is_given(a: &Order, m: u64, rows: &[Listed]) -> bool

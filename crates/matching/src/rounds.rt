@@ -11,8 +11,8 @@ ghost use Rattle.matching.specs.Rounds.{all-rounds};
 ghost use Rattle.matching.specs.Laws.{Quiet};
 use crate::active::active;
 use crate::attempt::attempt;
-use orders::order::Trade;
 use book::table::Table;
+use orders::order::Trade;
 
 // Rounds on the issue: their trades stand on the tape from `used` on and are made. Answers how many trades and how many rounds there are.
 // The market lends a clean strip and a tape with room for as many trades as there are live orders.

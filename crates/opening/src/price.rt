@@ -11,12 +11,12 @@ use crate::candidate::Candidate;
 use crate::candidate::CandidateRanked;
 use crate::quantities::PLACES;
 use crate::quantities::quantity_at;
+use book::table::Table;
 use orders::order::Order;
 use orders::order::Side;
 use orders::ranked::Entries;
 use orders::ranked::first;
 use orders::sides::is_special;
-use book::table::Table;
 
 fn distance_of(x: u64, y: u64) -> u64
     ensures { λ r. ⌜ r ≡ distance x y ⌝ }

@@ -3,11 +3,11 @@ ghost use mathlib.Core.Path.{_≡_};
 ghost use Rattle.std.specs.declared.option.Option.{Option};
 ghost use Rattle.book.specs.Table.{book-of};
 ghost use Rattle.opening.specs.Opening.{takes-part, share, quantity-at};
+use book::table::Table;
 use orders::order::Order;
 use orders::order::Side;
 use orders::sides::is_plain_in;
 use orders::sides::is_within;
-use book::table::Table;
 
 pub const PLACES: usize = 256;
 

@@ -15,13 +15,13 @@ ghost use Rattle.opening.specs.Opening.{takes-part, pairing, trades-at, openin
 use crate::price::opening_price;
 use crate::quantities::PLACES;
 use crate::quantities::takes_part;
+use book::table::Table;
 use orders::order::Order;
 use orders::order::Side;
 use orders::order::Trade;
 use orders::rank::OrderRanked;
 use orders::ranked::Entries;
 use orders::ranked::first;
-use book::table::Table;
 
 pub const ISSUES: usize = 16;
 

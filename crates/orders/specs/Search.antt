@@ -23,10 +23,14 @@ Empty at n = (k : ℕ) → k < n → at k ≡ None
 abbrev pub First : {X : Type 0} → (X → X → Bool) → (ℕ → Option X) → ℕ → Option (ℕ × X) → Type 0
 First before at n best = Cases best (Empty at n) (λ b. Leads before at n (b .0) (b .1))
 
+-- there is no entry so far, or x comes before the best of them
+abbrev pub leads : {X : Type 0} → (X → X → Bool) → Option (ℕ × X) → X → Bool
+leads before None x = true
+leads before (Some b) x = before x (b .1)
+
 -- the best so far, or the entry x at place i if it comes before that
 abbrev pub chosen : {X : Type 0} → (X → X → Bool) → Option (ℕ × X) → ℕ → X → Option (ℕ × X)
-chosen before None i x = Some (i, x)
-chosen before (Some b) i x = cond (before x (b .1)) (Some (i, x)) (Some b)
+chosen before best i x = cond (leads before best x) (Some (i, x)) best
 
 -- an entry that passes a test
 abbrev pub passing : {X : Type 0} → (X → Bool) → Option X → Option X

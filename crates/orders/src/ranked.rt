@@ -5,7 +5,7 @@ ghost use Prim.Native.Nat.{ℕ, _<_};
 ghost use lib.Dec.{ltb};
 ghost use Rattle.std.specs.Slices.{Ranks};
 ghost use Rattle.std.specs.declared.option.Option.{Option};
-ghost use Rattle.orders.specs.Search.{First, chosen};
+ghost use Rattle.orders.specs.Search.{First, leads, chosen};
 
 // What has a rank: `before x y` says that x comes before y.
 pub trait Ranked {
@@ -42,19 +42,22 @@ pub trait Entries {
         ensures { λ r. ⌜ r ≡ candidate (now (self .entry)) place ⌝ };
 }
 
-// The best so far, or the entry x at this place if it comes before that.
-fn choose<T: Ranked + Copy>(best: Option<(usize, T)>, place: usize, x: T) -> Option<(usize, T)>
-    ensures { λ r. ⌜ r ≡ chosen before best place x ⌝ }
+// No entry so far, or x comes before the best of them.
+fn comes_first<T: Ranked + Copy>(best: &Option<(usize, T)>, x: &T) -> bool
+    ensures { λ r. ⌜ r ≡ leads before (now (best .entry)) (now (x .entry)) ⌝ }
 {
     match best {
-        None => Some((place, x)),
-        Some((b, y)) => {
-            if x.precedes(&y) {
-                Some((place, x))
-            } else {
-                Some((b, y))
-            }
-        }
+        None => true,
+        Some((_, y)) => x.precedes(y),
+    }
+}
+
+// The best so far gives way to the entry x at this place if x comes before it.
+fn choose<T: Ranked + Copy>(best: &mut Option<(usize, T)>, place: usize, x: T)
+    ensures { λ _. ⌜ now (best .exit) ≡ chosen before (now (best .entry)) place x ⌝ }
+{
+    if comes_first(best, &x) {
+        *best = Some((place, x));
     }
 }
 
@@ -66,7 +69,7 @@ pub fn first<E: Entries>(entries: &E) -> Option<(usize, E::Entry)>
     let mut best: Option<(usize, E::Entry)> = None;
     for i in 0..n {
         match entries.look(i) {
-            Some(x) => best = choose(best, i, x),
+            Some(x) => choose(&mut best, i, x),
             None => {}
         }
     }

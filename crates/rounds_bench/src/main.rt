@@ -33,7 +33,7 @@ fn all_or_none(side: Side, quantity: u64) -> Entry
 // Each buy wants 2 and each sell has 3, all or none: every walk passes all orders opposite and none is filled.
 fn full_table() -> Table {
     let mut table = Table::new();
-    for _ in 0..128 {
+    for k in 0..128u64 {
         table.place(all_or_none(Side::Buy, 2), 1000);
         table.place(all_or_none(Side::Sell, 3), 1000);
     }
@@ -45,7 +45,7 @@ fn times_due(table: &Table, strip: &mut [u8]) -> u64
     requires { ⌜ clean (now strip) ≡ true ⌝ }
 {
     let mut due: u64 = 0;
-    for _ in 0..TIMES {
+    for k in 0..TIMES {
         if let Some(_) = active(table, strip, 1) {
             due = due.saturating_add(1);
         }

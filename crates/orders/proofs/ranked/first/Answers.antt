@@ -15,7 +15,7 @@ loop-i-again g c =
     elim (c .match-look .came) [
       | in-Some w ↦
           let e : at (c .loop-i .i) ≡ Some (w .in-Some .x) = sym (w .in-Some .ensures tt) in
-          rw (w .best-is ∙ w .choose-best .ensures) (first-choose o at (c .loop-i .i) (w .in-Some .x) (c .loop-i .best) e (c .loop-i .inv))
+          rw (w .best-is ∙ w .choose .ensures) (first-choose o at (c .loop-i .i) (w .in-Some .x) (c .loop-i .best) e (c .loop-i .inv))
       | in-None w ↦
           let e : at (c .loop-i .i) ≡ None = sym (w .in-None .ensures tt) in
           rw (w .best-is) (first-skip o at (c .loop-i .i) (c .loop-i .best) e (c .loop-i .inv))
