@@ -1,3 +1,4 @@
+pub mod Actives
 pub mod Walking
 pub mod Listings
 pub mod Fairness

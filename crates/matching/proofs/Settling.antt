@@ -40,22 +40,22 @@ use Rattle.matching.proofs.Walking.{plain-trades}
 use Rattle.matching.proofs.Fairness.{attempt-fair, attempt-working}
 
 -- ---- the words and the tests of orders
-same-side : (s : Side) → not (opposed s s) ≡ true
+pub same-side : (s : Side) → not (opposed s s) ≡ true
 same-side Buy = refl
 same-side Sell = refl
 
-plain-test : (i : ℕ) (s : Side) (o : Order) → Plain-order i s o → plain-in i s o ≡ true
+pub plain-test : (i : ℕ) (s : Side) (o : Order) → Plain-order i s o → plain-in i s o ≡ true
 plain-test i s o h =
     and-from (working-in i s o) (not (special (o .term)))
     (and-from _ _ (eq-eqb _ _ (h .issue)) (and-from _ _ (subst (λ x. not (opposed s x) ≡ true) (sym (h .side)) (same-side s)) (h .working)))
     (subst (λ t. not (special t) ≡ true) (sym (h .plain)) refl)
 
-not-plain : (t : Term) → (t ≡ Plain → ⊥) → special t ≡ true
+pub not-plain : (t : Term) → (t ≡ Plain → ⊥) → special t ≡ true
 not-plain Plain h = absurd (h refl)
 not-plain All h = refl
 not-plain (Least m) h = refl
 
-none-in : (x : Order) (xs : List Order) → xs ≡ [] → In x xs → ⊥
+pub none-in : (x : Order) (xs : List Order) → xs ≡ [] → In x xs → ⊥
 none-in x xs e i = subst (In x) e i
 
 -- ---- the best plain orders
@@ -79,7 +79,7 @@ or-none : {X : Type 0} (x y : Option X) → orOther x y ≡ None → (x ≡ None
 or-none None y e = (refl, e)
 or-none (Some x) y e = some-none x e
 
-no-cross : (i : ℕ) (b : Book) (v w : Option Order) → best-plain i Buy b ≡ v → best-plain i Sell b ≡ w → crossing v w ≡ None →
+pub no-cross : (i : ℕ) (b : Book) (v w : Option Order) → best-plain i Buy b ≡ v → best-plain i Sell b ≡ w → crossing v w ≡ None →
     (x y : Order) → In x b → In y b → Plain-order i Buy x → Plain-order i Sell y → x .price < y .price
 no-cross i b None w ev ew e x y ix iy px py = absurd (best-none i Buy b ev x ix px)
 no-cross i b (Some v) None ev ew e x y ix iy px py = absurd (best-none i Sell b ew y iy py)
@@ -112,7 +112,7 @@ none-first rs None (Some y) ex ey e = some-none y e
 none-first rs (Some x) None ex ey e = some-none x e
 none-first rs (Some x) (Some y) ex ey e = first-none earlier rs e
 
-any-none : (ts : List Trade) → any-trade ts ≡ false → ts ≡ []
+pub any-none : (ts : List Trade) → any-trade ts ≡ false → ts ≡ []
 any-none [] e = refl
 any-none (t ∷ ts) e = cc
 
@@ -186,7 +186,7 @@ ready-acts i b o j =
     let q = and-parts (eqb (o .issue) i) (special (o .term) && o .working) (p .0) in
     record { live = k .0; trades = p .1; works = and-parts (special (o .term)) (o .working) (q .1) .1; issue = eqb-true _ _ (q .0) }
 
-or-some : {X A : Type 0} (x y : Option X) (a : X) → orOther x y ≡ Some a → (x ≡ Some a → A) → (y ≡ Some a → A) → A
+pub or-some : {X A : Type 0} (x y : Option X) (a : X) → orOther x y ≡ Some a → (x ≡ Some a → A) → (y ≡ Some a → A) → A
 or-some None y a e f g = g e
 or-some (Some x) y a e f g = f e
 

@@ -17,7 +17,7 @@ use Rattle.orders.specs.declared.order.Term.the-variants.{Plain, All}
 use Rattle.book.specs.declared.table.Table.{Table}
 use Rattle.orders.specs.Search.{In}
 use Rattle.orders.specs.Book.{Book, find, without, after}
-use Rattle.orders.specs.Laws.{Sound, All-fair}
+use Rattle.orders.specs.Laws.{Sound, All-fair, Ahead}
 use Rattle.book.specs.Table.{book-of, at-place}
 use Rattle.matching.specs.Attempt.{attempt, attempt-of}
 use Rattle.matching.specs.Rounds.{ready, active-in, Rounds, rounds, all-rounds}
@@ -68,6 +68,50 @@ pub record Plain-order (i : ℕ) (s : Side) (o : Order) : Type 0 where
   pub side : o .side ≡ s
   pub working : o .working ≡ true
   pub plain : o .term ≡ Plain
+
+-- Who is active, in words.
+-- a working special order of the issue on the side whose attempt would trade
+pub record Ready-order (i : ℕ) (s : Side) (b : Book) (o : Order) : Type 0 where
+  pub live : In o b
+  pub issue : o .issue ≡ i
+  pub side : o .side ≡ s
+  pub working : o .working ≡ true
+  pub special : o .term ≡ Plain → ⊥
+  pub trades : attempt o b ≡ [] → ⊥
+
+-- a working plain order of the issue on the side that no other is ahead of
+pub record Best-order (i : ℕ) (s : Side) (b : Book) (o : Order) : Type 0 where
+  pub live : In o b
+  pub plain : Plain-order i s o
+  pub first : (x : Order) → In x b → Plain-order i s x → Ahead x o → ⊥
+
+-- the best plain buy is priced at or above the best plain sell, and a is the later-stamped of the two
+pub record Crossed (i : ℕ) (b : Book) (a : Order) : Type 0 where
+  pub buy : Order
+  pub sell : Order
+  pub best-buy : Best-order i Buy b buy
+  pub best-sell : Best-order i Sell b sell
+  pub meet : sell .price ≤ buy .price
+  pub later : ((a ≡ buy) × (sell .stamp ≤ buy .stamp)) ⊎ ((a ≡ sell) × (buy .stamp < sell .stamp))
+
+abbrev pub other : Side → Side
+other Buy = Sell
+other Sell = Buy
+
+-- no plain orders cross, and a is ready: no ready order on its side is ahead of it where that side alone has any, and none has a lower stamp where both have
+pub record Named (i : ℕ) (b : Book) (a : Order) : Type 0 where
+  pub apart : (x y : Order) → In x b → In y b → Plain-order i Buy x → Plain-order i Sell y → x .price < y .price
+  pub is-ready : Ready-order i (a .side) b a
+  pub one-side : ((o : Order) → Ready-order i (other (a .side)) b o → ⊥) → (o : Order) → Ready-order i (a .side) b o → Ahead o a → ⊥
+  pub both-sides : (o : Order) → Ready-order i (other (a .side)) b o → (s : Side) (x : Order) → Ready-order i s b x → a .stamp ≤ x .stamp
+
+-- the order that a round makes active, and that it trades
+pub record Active (i : ℕ) (b : Book) (a : Order) : Type 0 where
+  pub who : Crossed i b a ⊎ Named i b a
+  pub trades : attempt a b ≡ [] → ⊥
+
+abbrev pub Active-said : Type 0
+Active-said = (i : ℕ) (b : Book) → Sound b → (a : Order) → active-in i b ≡ Some a → Active i b a
 
 -- The quiet book of an issue: each working plain buy is priced below each working plain sell, and no working special order would trade.
 pub record Quiet (i : ℕ) (b : Book) : Type 0 where

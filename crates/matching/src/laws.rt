@@ -1,9 +1,14 @@
 // What is true of attempts and rounds: each law is the contract of a function.
-ghost use Rattle.matching.specs.Laws.{Attempts-fair, Quiet-local, Rounds-settle, Calls-fit, Rows-free};
+ghost use Rattle.matching.specs.Laws.{Active-said, Attempts-fair, Quiet-local, Rounds-settle, Calls-fit, Rows-free};
 
 // The trades of a working order's attempt are fair and at the waiting orders' prices, and all orders trade all that they have left or nothing.
 pub fn attempts_fair()
     ensures { λ _. ⌜ Attempts-fair ⌝ }
+{}
+
+// Which order a round makes active, and that it trades.
+pub fn active_said()
+    ensures { λ _. ⌜ Active-said ⌝ }
 {}
 
 // Whether an issue is quiet is a matter of its own orders alone.
