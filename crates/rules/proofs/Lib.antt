@@ -1,0 +1,3 @@
+pub mod Accepted
+pub mod Registers
+pub mod Settlements

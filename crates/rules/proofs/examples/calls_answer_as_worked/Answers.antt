@@ -1,0 +1,7 @@
+use mathlib.Core.Path.{refl}
+use Rattle.register.specs.Rules.{issues}
+use Rattle.rules.proofs.examples.calls_answer_as_worked.Needs as need
+
+pub returns : need.returns
+unfolding issues
+returns c = refl

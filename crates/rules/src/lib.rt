@@ -1,0 +1,5 @@
+// The rules of the market as definitions: its faults, its state, the ten calls, and runs of calls.
+pub mod examples;
+pub mod fault;
+pub mod laws;
+pub mod outcome;
