@@ -5,7 +5,6 @@ use Prim.Native.Nat.{ℕ, _+_}
 use lib.Dec.{eqb}
 use lib.ListN.{length}
 use Rattle.std.specs.Options.{valueOr}
-use Rattle.orders.specs.declared.order.Order.{Order}
 use Rattle.orders.specs.declared.order.Trade.{Trade}
 use Rattle.orders.specs.declared.order.Side.{Side}
 use Rattle.orders.specs.declared.order.Side.the-variants.{Buy, Sell}

@@ -1,25 +1,22 @@
 -- The rows of a flat table: one for each cell, lawful where the totals are within their limit. Assumes nothing.
 use mathlib.Core.Path.{_≡_, refl, sym, ap, _∙_, subst}
 use mathlib.Core.List.{List, [], _∷_}
-use mathlib.Core.Bool.{Bool, true, false, cond, _&&_, _||_}
-use mathlib.Core.Logic.{_⊎_, inl, inr, ⊎-elim}
+use mathlib.Core.Bool.{true, false, _&&_}
+use mathlib.Core.Logic.{_⊎_, ⊎-elim}
 use Prim.Native.Nat.{ℕ, zero, suc, _+_, _*_, _/_, _%_, _≤_, _<_}
 use native.Mathlib.Omega.{arith}
-use native.Mathlib.Numerals.{add-one}
-use lib.Dec.{eqb, ltb, leb}
+use lib.Dec.{eqb, leb}
 use lib.ListN.{length, getD, set, replicate}
-use Rattle.std.specs.Iters.{counting}
 use Rattle.std.specs.shelf.Lawful.{all-pass}
-use Rattle.std.proofs.shelf.Tests.{ne-eqb, cases-bool, and-parts, eqb-true, cond-false, cond-true, and-from, or-left, or-right, lt-ltb, le-leb, eq-eqb, cases-lt, leb-true}
-use Rattle.std.proofs.shelf.Ways.{tells}
+use Rattle.std.proofs.shelf.Tests.{cases-bool, and-parts, cond-false, cond-true, and-from, or-left, or-right, lt-ltb, le-leb, eq-eqb, cases-lt, leb-true}
 use Rattle.register.specs.declared.holding.Row.{Row}
 use Rattle.grid.specs.declared.Holding.{Holding}
 use Rattle.grid.specs.Cells.{no-shares, cell-row, rows-from, grid-rows}
 use Rattle.register.specs.Places.{no-row, Placed}
-use Rattle.register.specs.Rules.{limit, lawful, total-of, precedes, leads, ascending, in-range, issues, capped, names, shares, figured, balance-of}
+use Rattle.register.specs.Rules.{limit, lawful, total-of, precedes, ascending, in-range, names, shares, figured, balance-of}
 use Rattle.std.proofs.shelf.Sums.{sumBy-cons}
-use Rattle.std.proofs.shelf.Lists.{length-replicate, getD-replicate, length-set, getD-set-same, getD-set-other}
-use Rattle.std.proofs.shelf.Tests.{cases-eq, and-cases, leb-false}
+use Rattle.std.proofs.shelf.Lists.{length-replicate, getD-replicate, getD-set-same, getD-set-other}
+use Rattle.std.proofs.shelf.Tests.{cases-eq}
 use Rattle.grid.specs.Cells.{new-balance}
 use Rattle.register.proofs.Sets.{capped-from}
 use Rattle.register.proofs.Places.{total-le, balance-at, balance-none, named, shares-named, shares-other}

@@ -1,11 +1,10 @@
 -- Which order a round makes active, in words.
 use mathlib.Core.Path.{_≡_, refl, sym, ap, subst, _∙_}
 use mathlib.Core.Logic.{_⊎_, inl, inr}
-use mathlib.Core.Bool.{Bool, true, false, cond, not, _&&_}
+use mathlib.Core.Bool.{true, false, not, _&&_}
 use mathlib.Core.List.{List, []}
-use Prim.Native.Nat.{ℕ, _≤_, _<_}
-use native.Mathlib.Omega.{arith}
-use lib.Dec.{eqb, leb, ltb}
+use Prim.Native.Nat.{ℕ, _≤_}
+use lib.Dec.{eqb, leb}
 use Rattle.std.specs.Options.{orOther}
 use Rattle.std.specs.shelf.Lists.{kept-by}
 use Rattle.std.specs.declared.option.Option.{Option}
@@ -16,18 +15,18 @@ use Rattle.orders.specs.declared.order.Trade.{Trade}
 use Rattle.orders.specs.declared.order.Side.{Side}
 use Rattle.orders.specs.declared.order.Side.the-variants.{Buy, Sell}
 use Rattle.orders.specs.declared.order.Term.the-variants.{Plain}
-use Rattle.orders.specs.Orders.{opposed, special, plain-in}
+use Rattle.orders.specs.Orders.{opposed, special}
 use Rattle.orders.specs.Rank.{first-by, ahead, earlier}
 use Rattle.orders.specs.Search.{In}
 use Rattle.orders.specs.Book.{Book}
-use Rattle.orders.specs.Laws.{Sound, Ahead}
-use Rattle.orders.proofs.Lists.{none-some, some-none, cond-either, in-kept, kept-in}
+use Rattle.orders.specs.Laws.{Ahead}
+use Rattle.orders.proofs.Lists.{none-some, cond-either, in-kept, kept-in}
 use Rattle.orders.proofs.Firsts.{first-none, first-tops}
 use Rattle.orders.proofs.Ranks.{ahead-ranks, earlier-ranks, rank-said}
 use Rattle.matching.specs.Attempt.{attempt}
-use Rattle.matching.specs.Rounds.{best-plain, later, crossing, any-trade, special-in, ready, on-side, by-sides, first-ready, active-in}
-use Rattle.matching.specs.Laws.{Plain-order, Ready-order, Best-order, Crossed, Named, Active, Active-said, other}
-use Rattle.matching.proofs.Settling.{same-side, plain-test, not-plain, none-in, no-cross, any-none, or-some, Best, best-says, Acts, active-acts}
+use Rattle.matching.specs.Rounds.{best-plain, later, crossing, any-trade, special-in, ready, on-side, by-sides, first-ready}
+use Rattle.matching.specs.Laws.{Ready-order, Best-order, Crossed, Active-said, other}
+use Rattle.matching.proofs.Settling.{same-side, plain-test, not-plain, none-in, no-cross, any-none, best-says, active-acts}
 
 -- a rank that does not put x before y leaves x not ahead of y
 not-ahead : (x y : Order) → x .side ≡ y .side → ahead x y ≡ false → Ahead x y → ⊥

@@ -1,12 +1,12 @@
 -- What a mover does to balances and totals. Assumes nothing.
 use mathlib.Core.Path.{_≡_, refl, sym, ap, _∙_, subst}
 use mathlib.Core.List.{List, [], _∷_}
-use mathlib.Core.Bool.{Bool, true, false, cond, _&&_}
+use mathlib.Core.Bool.{true, false, cond}
 use mathlib.Core.Logic.{_⊎_, ⊎-elim}
-use Prim.Native.Nat.{ℕ, zero, suc, _+_, _-_, _≤_, _<_}
+use Prim.Native.Nat.{ℕ, suc, _+_, _-_, _≤_}
 use native.Mathlib.Omega.{arith}
-use lib.Dec.{eqb, leb}
-use lib.ListN.{length, getD, set}
+use lib.Dec.{leb}
+use lib.ListN.{getD, set}
 use Rattle.std.specs.Options.{mapped}
 use Rattle.std.specs.declared.option.Option.{Option}
 use Rattle.std.specs.declared.option.Option.the-variants.{Some, None}
@@ -19,7 +19,7 @@ use Rattle.register.specs.declared.movers.Move.{Move}
 use Rattle.register.specs.declared.movers.Move.the-variants.{Withdraw, Hold, Release}
 use Rattle.register.specs.Places.{no-row, Placed}
 use Rattle.register.specs.Rules.{limit, lawful, names, balance-of, total-of, shares, Moved, figured, change, gain-free, lose-held, if-open, figures-after, with-figures, deposited, moved, settled}
-use Rattle.register.specs.Laws.{Has, Others-stay, Other-totals-stay, Done, Settlement, Movers-law, Movers-move-what-they-name}
+use Rattle.register.specs.Laws.{Has, Done, Settlement, Movers-move-what-they-name}
 use Rattle.register.proofs.Places.{named, balance-at, balance-le, lawful-ascending, placed-change, placed-le, placed-total, shares-other, total-le}
 use Rattle.register.proofs.Sets.{lawful-set}
 

@@ -1,22 +1,20 @@
 -- What lawful rows give: each pair has one place, and the totals are within their limit. Assumes nothing.
 use mathlib.Core.Path.{_≡_, refl, sym, ap, _∙_}
-use mathlib.Core.List.{List, [], _∷_, map}
-use mathlib.Core.Bool.{Bool, true, false, cond, _&&_, _||_}
+use mathlib.Core.List.{List, [], _∷_}
+use mathlib.Core.Bool.{Bool, true, false}
 use mathlib.Core.Logic.{_⊎_, inl, inr, ⊎-elim}
 use Prim.Native.Nat.{ℕ, zero, suc, _+_, _≤_, _<_}
 use native.Mathlib.Omega.{arith}
-use lib.Dec.{eqb, ltb, leb}
+use lib.Dec.{leb}
 use lib.ListN.{length, getD, set}
 use Rattle.std.specs.Iters.{counting}
 use Rattle.std.specs.shelf.Lawful.{all-pass}
-use Rattle.std.specs.shelf.Lists.{sumBy}
 use Rattle.std.specs.declared.option.Option.the-variants.{Some, None}
-use Rattle.std.specs.declared.result.Result.the-variants.{Ok, Err}
-use Rattle.std.proofs.shelf.Tests.{and-parts, or-cases, eqb-true, ltb-true, leb-true, cond-true, cond-false, cases-bool, ne-eqb, cases-lt, eq-eqb, le-leb, lt-leb}
+use Rattle.std.proofs.shelf.Tests.{and-parts, or-cases, eqb-true, ltb-true, leb-true, cond-true, cond-false, cases-bool, ne-eqb, cases-lt, eq-eqb}
 use Rattle.std.proofs.shelf.Sums.{sumBy-cons, sumBy-set, getD-le-sumBy}
 use Rattle.register.specs.declared.holding.Row.{Row}
 use Rattle.register.specs.Places.{no-row, Placed}
-use Rattle.register.specs.Rules.{limit, lawful, names, balance-of, total-of, shares, precedes, leads, ascending, in-range, issues, capped, change, Moved, if-open, figured}
+use Rattle.register.specs.Rules.{limit, lawful, names, balance-of, total-of, shares, precedes, ascending, in-range, issues, capped, change, Moved, if-open, figured}
 
 -- ---- the parts of the rule
 

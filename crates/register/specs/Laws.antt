@@ -7,7 +7,7 @@ use Rattle.std.specs.declared.option.Option.the-variants.{Some}
 use Rattle.std.specs.declared.result.Result.the-variants.{Ok}
 use Rattle.register.specs.declared.holding.Row.{Row}
 use Rattle.register.specs.declared.movers.Move.the-variants.{Withdraw, Hold, Release}
-use Rattle.register.specs.Rules.{limit, lawful, balance-of, total-of, deposited, moved, settled}
+use Rattle.register.specs.Rules.{lawful, balance-of, total-of, deposited, moved, settled}
 
 -- the pair (a, i) is open, with these shares
 abbrev pub Has : ℕ → ℕ → ℕ → ℕ → List Row → Type 0

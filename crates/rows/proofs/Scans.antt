@@ -1,32 +1,30 @@
 -- Steps of the loops that look through rows. Assumes nothing.
 use mathlib.Core.Path.{_≡_, refl, sym, ap, _∙_}
 use mathlib.Core.List.{List, [], _∷_}
-use mathlib.Core.Bool.{Bool, true, false, cond, _&&_, _||_}
-use mathlib.Core.Logic.{_⊎_, inl, inr, ⊎-elim}
+use mathlib.Core.Bool.{Bool, true, false, _&&_}
+use mathlib.Core.Logic.{_⊎_, ⊎-elim}
 use Prim.Native.Nat.{ℕ, zero, suc, _+_, _-_, _≤_, _<_}
 use native.Mathlib.Omega.{arith}
-use native.Mathlib.Numerals.{add-one}
-use lib.Dec.{eqb, ltb, leb}
+use lib.Dec.{leb}
 use lib.ListN.{length, getD, set, take, drop}
-use Rattle.std.specs.Iters.{counting}
 use Rattle.std.specs.shelf.Lawful.{all-pass}
 use Rattle.std.specs.Options.{isSome}
 use Rattle.std.specs.declared.option.Option.{Option}
 use Rattle.std.specs.declared.option.Option.the-variants.{Some, None}
-use Rattle.std.proofs.shelf.Tests.{and-left, cond-true, cond-false, le-leb, lt-leb, eq-eqb, cases-lt, cases-bool, and-parts, and-from, true≢false, leb-true, cases-eq}
+use Rattle.std.proofs.shelf.Tests.{and-left, cond-true, cond-false, le-leb, lt-leb, eq-eqb, cases-lt, cases-bool, and-parts, and-from, true≢false, leb-true}
 use Rattle.std.proofs.shelf.Lists.{at-drop-more, at-drop-all, length-drop, drop-more, take-all}
-use Rattle.std.proofs.shelf.Sums.{sumBy-more, sumBy-take-le, sumBy-set}
+use Rattle.std.proofs.shelf.Sums.{sumBy-more, sumBy-take-le}
 use Rattle.register.specs.declared.holding.Row.{Row}
 use Rattle.register.specs.Places.{no-row, sought}
-use Rattle.register.specs.Rules.{limit, lawful, total-of, shares, names, precedes, leads, ascending, in-range, issues, capped, figured, balance-of}
+use Rattle.register.specs.Rules.{limit, lawful, total-of, shares, names, precedes, leads, ascending, in-range, issues, capped, figured}
 use Rattle.std.specs.Options.{valueOr}
 use Rattle.std.specs.Results.{isOk}
 use Rattle.std.specs.declared.result.Result.the-variants.{Ok, Err}
 use Rattle.register.specs.declared.fault.RegisterFault.the-variants.{BadRows}
 use Rattle.std.proofs.shelf.Tests.{and-right}
 use Rattle.rows.specs.Checks.{total-if-within, meant, acceptable, checked}
-use Rattle.register.proofs.Places.{Lex, lex-from-precedes, lex-head, lex-trans, unnamed-before, unnamed-after, all-counting, shares-named, shares-other, lawful-ascending, lawful-ranged, total-le}
-use Rattle.register.proofs.Sets.{capped-from, lawful-set}
+use Rattle.register.proofs.Places.{Lex, lex-from-precedes, lex-head, lex-trans, unnamed-before, unnamed-after, all-counting, shares-named, shares-other, total-le}
+use Rattle.register.proofs.Sets.{lawful-set}
 
 -- ---- a test of each row
 

@@ -15,8 +15,8 @@ use Rattle.rules.specs.declared.outcome.Phase.the-variants.{PreOpen, Continuou
 use Rattle.rules.specs.declared.outcome.Outcome.{Outcome}
 use Rattle.rules.specs.declared.fault.MarketFault.{MarketFault}
 use Rattle.rules.specs.Ledger.{Ledger}
-use Rattle.rules.specs.Refusals.{Lent, refusal}
-use Rattle.rules.specs.Market.{State, Answer, tried, finished, rounds-in, followed, accepted, decided, step}
+use Rattle.rules.specs.Refusals.{refusal}
+use Rattle.rules.specs.Market.{State, Answer, tried, finished, rounds-in, followed, accepted, decided}
 use Rattle.rules.specs.Laws.{Left-alone, Refusals-change-nothing}
 
 abbrev Answered : Answer × State → Type 0

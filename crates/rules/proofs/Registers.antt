@@ -1,6 +1,6 @@
 -- Every call keeps the register's rules. Assumes nothing.
-use mathlib.Core.Path.{_≡_, refl, sym, ap, _∙_}
-use mathlib.Core.Bool.{Bool, true, false, cond}
+use mathlib.Core.Path.{_≡_, refl}
+use mathlib.Core.Bool.{true}
 use mathlib.Core.List.{List, [], _∷_}
 use Prim.Native.Nat.{ℕ, _+_, _-_}
 use native.Mathlib.Omega.{arith}
@@ -33,8 +33,8 @@ use Rattle.rules.specs.declared.outcome.Phase.the-variants.{PreOpen, Continuou
 use Rattle.rules.specs.declared.outcome.Outcome.{Outcome}
 use Rattle.rules.specs.declared.fault.MarketFault.{MarketFault}
 use Rattle.rules.specs.Ledger.{Ledger}
-use Rattle.rules.specs.Refusals.{Lent, refusal}
-use Rattle.rules.specs.Market.{State, Answer, held-for, released-to, all-settled, released-by, ended-rows, all-ended, covered, recovered, amended-rows, rows-by, accepted, if-now, executed, tried, finished, rounds-in, followed, decided, step, run}
+use Rattle.rules.specs.Refusals.{refusal}
+use Rattle.rules.specs.Market.{State, held-for, released-to, all-settled, released-by, ended-rows, all-ended, covered, recovered, amended-rows, rows-by, accepted, if-now, executed, tried, finished, rounds-in, followed, decided, step}
 use Rattle.rules.specs.Laws.{Runs-keep-the-register}
 
 abbrev Kept : List Row → Type 0

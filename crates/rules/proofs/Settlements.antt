@@ -3,7 +3,7 @@ use mathlib.Core.Path.{_≡_, refl, sym, ap, subst, _∙_}
 use mathlib.Core.Bool.{Bool, true, false, cond, _&&_}
 use mathlib.Core.List.{List, [], _∷_}
 use mathlib.Core.Logic.{inl, inr}
-use Prim.Native.Nat.{ℕ, _+_, _-_, _≤_, _<_, min}
+use Prim.Native.Nat.{ℕ, _+_, _-_, _≤_}
 use native.Mathlib.Omega.{arith}
 use lib.Dec.{eqb, leb}
 use Rattle.std.specs.Options.{isSome}
@@ -21,14 +21,13 @@ use Rattle.register.proofs.Changes.{movers-move-what-they-name}
 use Rattle.orders.specs.declared.order.Order.{Order}
 use Rattle.orders.specs.declared.order.Trade.{Trade}
 use Rattle.orders.specs.declared.order.Side.the-variants.{Buy, Sell}
-use Rattle.orders.specs.Book.{Book, find, lowered, if-left, reduced, after-trade, after}
-use Rattle.orders.specs.Laws.{Fair, All-fair}
-use Rattle.orders.proofs.Lists.{none-some, cond-either, all-both}
+use Rattle.orders.specs.Book.{Book, find, lowered, if-left, reduced, after-trade}
+use Rattle.orders.specs.Laws.{Fair}
+use Rattle.orders.proofs.Lists.{none-some}
 use Rattle.orders.proofs.Changes.{found-all}
 use Rattle.orders.proofs.Trades.{find-other, two-orders, all-reduced}
 use Rattle.rules.specs.Refusals.{is-sell, is-open}
-use Rattle.rules.specs.Market.{all-settled}
-use Rattle.rules.specs.Shares.{held-in, shares-in, same-pair, sells-of, backing, bought, sold, Covered, Settled-in-full, Trades-settle}
+use Rattle.rules.specs.Shares.{held-in, shares-in, same-pair, sells-of, backing, Covered, Trades-settle}
 
 -- ---- one pair before and after: `out` leaves its held shares, `into` joins its free ones
 record Moves (o n : Option (ℕ × ℕ)) (out into : ℕ) : Type 0 where

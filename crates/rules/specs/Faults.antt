@@ -1,6 +1,5 @@
 -- The number of each fault of the market. Assumes nothing.
 use Prim.Native.Nat.{ℕ}
-use Rattle.register.specs.declared.fault.RegisterFault.{RegisterFault}
 use Rattle.register.specs.declared.fault.RegisterFault.the-variants.{NotOpen, ShortFree, ShortHeld, OverTotal, BadRows}
 use Rattle.rules.specs.declared.fault.MarketFault.{MarketFault}
 use Rattle.rules.specs.declared.fault.MarketFault.the-variants.{WrongPhase, UncleanStrip, ShortTape, UnknownIssue, NeverGiven, OrderEnded, NothingToChange, BadPrice, BadQuantity, BadLeast, NoneOpposite, BookFull, StampsOut, InRegister}

@@ -1,4 +1,3 @@
-pub mod Examples
 pub mod Faults
 pub mod Laws
 pub mod Ledger

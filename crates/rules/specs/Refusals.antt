@@ -1,8 +1,8 @@
 -- Which call is refused, and by which fault: the first condition that holds, in the order of the table. Assumes nothing.
 use mathlib.Core.Bool.{Bool, true, false, cond, not, _&&_, _||_}
-use mathlib.Core.List.{List, [], _∷_, _++_}
+use mathlib.Core.List.{List, [], _∷_}
 use Prim.Native.Nat.{ℕ, _+_, _-_, min}
-use lib.Dec.{leb, ltb, eqb}
+use lib.Dec.{leb, ltb}
 use lib.ListN.{length}
 use Rattle.std.specs.Options.{isSome}
 use Rattle.std.specs.declared.option.Option.{Option}
@@ -22,7 +22,7 @@ use Rattle.orders.specs.declared.order.Price.the-variants.{Limit, Market}
 use Rattle.orders.specs.declared.order.Call.{Call}
 use Rattle.orders.specs.declared.order.Call.the-variants.{Enter, Amend, Cancel, Suspend, Resume, Deposit, Withdraw, Reference, Open, Close}
 use Rattle.orders.specs.Orders.{breaks-price, breaks-quantity, breaks-least, never-given, stamps-out}
-use Rattle.orders.specs.Book.{Book, find, best-opposite}
+use Rattle.orders.specs.Book.{find, best-opposite}
 use Rattle.rules.specs.declared.outcome.Phase.{Phase}
 use Rattle.rules.specs.declared.outcome.Phase.the-variants.{PreOpen, Continuous, Closed}
 use Rattle.rules.specs.declared.fault.MarketFault.{MarketFault}

@@ -1,19 +1,18 @@
 -- What a report comes to, line by line. Assumes nothing.
 use mathlib.Core.Path.{_≡_, refl, sym, ap, subst, _∙_}
-use mathlib.Core.Bool.{Bool, true, false, cond}
+use mathlib.Core.Bool.{true, false}
 use mathlib.Core.List.{List, [], _∷_, _++_, append-assoc, append-nil}
 use mathlib.Core.Logic.{⊎-elim}
-use Prim.Native.Nat.{ℕ, suc, zero, _+_, _≤_, _<_}
+use Prim.Native.Nat.{ℕ, _+_, _≤_, _<_}
 use native.Mathlib.Omega.{arith}
 use lib.ListN.{length, take, drop, length-append}
-use Rattle.std.specs.declared.result.Result.{Result}
 use Rattle.std.specs.declared.result.Result.the-variants.{Ok, Err}
 use Rattle.std.proofs.shelf.Lists.{nil-from-length}
 use Rattle.std.proofs.shelf.Tests.{cond-true, cond-false, cases-bool}
 use Rattle.register.specs.declared.holding.Row.{Row}
 use Rattle.text.specs.Lines.{lines-of, FirstLine}
 use Rattle.statements.specs.Statement.{unread-line}
-use Rattle.statements.specs.Report.{Reading, Means, ReadAs, all-read, rows-in, unread-lines, report-of, statement-of, Reported, Line}
+use Rattle.statements.specs.Report.{Reading, ReadAs, all-read, rows-in, unread-lines, statement-of, Reported, Line}
 
 rows-join : (xs ys : List Reading) → rows-in (xs ++ ys) ≡ rows-in xs ++ rows-in ys
 rows-join [] ys = refl

@@ -1,5 +1,5 @@
 -- What may come on the line of a row, step by step. Assumes nothing.
-use mathlib.Core.Path.{_≡_, refl, sym, ap, subst, _∙_}
+use mathlib.Core.Path.{_≡_, refl, sym, subst}
 use mathlib.Core.List.{List, [], _∷_, _++_}
 use Prim.Native.Nat.{ℕ}
 use native.Mathlib.Omega.{arith}
@@ -7,7 +7,6 @@ use lib.Chars.{codes}
 use Rattle.std.specs.Written.{decimal}
 use Rattle.register.specs.declared.holding.Row.{Row}
 use Rattle.text.specs.declared.cursor.Reader.{Reader}
-use Rattle.text.specs.Columns.{Small}
 use Rattle.text.specs.Tree.{Gram, stop, num, lits, Lang, Expects, At}
 use Rattle.text.proofs.Trees.{lits-in, lits-out}
 use Rattle.statements.specs.Rows.{RowLine, row-text}

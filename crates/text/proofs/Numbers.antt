@@ -18,7 +18,7 @@ use Rattle.text.specs.declared.reader.NumberEnd.{NumberEnd}
 use Rattle.text.specs.declared.reader.NumberEnd.the-variants.{Space, Close}
 use Rattle.text.specs.declared.tokens.Token.{Token}
 use Rattle.text.specs.declared.tokens.Token.the-variants as token
-use Rattle.text.specs.Columns.{Small, Begins, Stuck, Column}
+use Rattle.text.specs.Columns.{Small, Begins, Column}
 use Rattle.text.specs.Tokens.{Digit, Digits, Letter, Run, TokenAt}
 use Rattle.text.specs.Tree.{Gram, num, end-byte, Lang, Expects}
 use Rattle.text.proofs.Steps.{read-as, begins-shorter, stuck, alive, next-byte}

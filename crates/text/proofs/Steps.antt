@@ -12,7 +12,7 @@ use Rattle.std.proofs.shelf.Lists.{take-more, drop-more, take-all, drop-all, ta
 use Rattle.std.proofs.shelf.Results.{err-from-errBy}
 use Rattle.std.proofs.str.Laws.{order}
 use Rattle.text.specs.declared.form.Malformed.{Malformed}
-use Rattle.text.specs.Columns.{Only, Begins, Stuck, Column}
+use Rattle.text.specs.Columns.{Only, Begins, Column}
 use Rattle.text.specs.Tokens.{Run}
 use Rattle.text.specs.Tree.{Gram, stop, lit, num, lits, Lang, Expects}
 

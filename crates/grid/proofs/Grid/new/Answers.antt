@@ -1,6 +1,5 @@
 use mathlib.Core.Path.{refl, sym, _∙_}
-use Prim.Native.Nat.{ℕ, _+_}
-use native.Mathlib.Omega.{arith}
+use Prim.Native.Nat.{_+_}
 use Rattle.std.proofs.shelf.Lists.{getD-replicate}
 use Rattle.grid.proofs.Cells.{new-total, new-is, new-lawful}
 use Rattle.grid.proofs.Grid.new.Needs as need

@@ -1,5 +1,4 @@
 use mathlib.Core.Logic.{⊎-elim}
-use Prim.Native.Nat.{_≤_, _<_}
 use native.Mathlib.Omega.{arith}
 use Rattle.grid.proofs.Cells.{grid-absent, grid-placed}
 use Rattle.grid.proofs.GridStore.find.Needs as need

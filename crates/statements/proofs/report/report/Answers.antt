@@ -1,14 +1,13 @@
-use mathlib.Core.Path.{_≡_, sym, ap, subst, _∙_}
+use mathlib.Core.Path.{ap, subst, _∙_}
 use Prim.Native.Nat.{_≤_, _<_}
 use native.Mathlib.Nat.{sub-zero}
 use native.Mathlib.Omega.{arith}
-use lib.ListN.{length, drop, length-drop}
+use lib.ListN.{length, length-drop}
 use Rattle.std.specs.Of.String.{string-bytes}
-use Rattle.std.specs.Of.Vec.{vec-items}
 use Rattle.std.proofs.shelf.Lists.{take-rest}
 use Rattle.std.proofs.shelf.Results.{made-weaker}
 use Rattle.statements.specs.Report.{statement-of}
-use Rattle.statements.proofs.Reports.{none-yet, one-line, some-refused, none-refused}
+use Rattle.statements.proofs.Reports.{one-line, some-refused, none-refused}
 use Rattle.statements.proofs.report.report.Needs as need
 
 pub loop-rest-again : need.loop-rest-again

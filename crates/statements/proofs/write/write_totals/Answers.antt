@@ -1,5 +1,4 @@
 use mathlib.Core.Path.{refl}
-use native.Mathlib.Omega.{arith}
 use Rattle.register.specs.Rules.{issues}
 use Rattle.statements.specs.Statement.{total-at}
 use Rattle.statements.proofs.Joins.{counted-turn, counted-end}

@@ -1,15 +1,11 @@
-use mathlib.Core.Path.{_≡_, sym, ap, subst, _∙_}
-use Prim.Native.Nat.{_+_, _*_, _<_, _≤_, _^_}
+use mathlib.Core.Path.{ap, _∙_}
 use native.Mathlib.Omega.{arith}
-use lib.ListN.{length, getD, take}
+use lib.ListN.{getD}
 use Rattle.std.specs.Reads.{value}
-use Rattle.std.specs.Text.{digitValue}
 use Rattle.std.proofs.shelf.Digits.{value-more}
-use Rattle.std.proofs.shelf.Lists.{length-take-le, getD-take, take-all}
-use Rattle.std.proofs.shelf.Numerals.{value-short}
+use Rattle.std.proofs.shelf.Lists.{take-all}
 use Rattle.std.proofs.shelf.Text.{digitValue-digit}
-use Rattle.text.specs.Tokens.{Digits}
-use Rattle.text.proofs.Numbers.{own, front-small}
+use Rattle.text.proofs.Numbers.{front-small}
 use Rattle.text.proofs.reader.digits_value.Needs as need
 
 pub mul-n : need.mul-n

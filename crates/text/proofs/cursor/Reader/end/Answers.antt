@@ -1,8 +1,7 @@
-use mathlib.Core.Path.{refl, sym, ap, subst}
-use Prim.Native.Nat.{_+_, _<_}
+use mathlib.Core.Path.{refl, ap, subst}
+use Prim.Native.Nat.{_<_}
 use native.Mathlib.Omega.{arith}
 use lib.ListN.{length}
-use Rattle.text.specs.Columns.{Column}
 use Rattle.text.proofs.Steps.{ended, not-ended}
 use Rattle.text.proofs.cursor.Reader.end.Needs as need
 

@@ -1,6 +1,6 @@
 use mathlib.Core.Path.{refl}
 use Rattle.register.specs.Rules.{issues}
-use Rattle.rules.proofs.examples.calls_answer_as_worked.Needs as need
+use Rattle.examples.proofs.calls_answer_as_worked.Needs as need
 
 pub returns : need.returns
 unfolding issues

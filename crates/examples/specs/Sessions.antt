@@ -1,15 +1,13 @@
--- Worked examples of whole calls, as one table that is computed. Assumes nothing.
+-- Worked sessions of whole calls, as one table that is computed. Assumes nothing.
 use mathlib.Core.Path.{_≡_}
 use mathlib.Core.Bool.{Bool, true, false, _&&_}
 use mathlib.Core.List.{List, [], _∷_, map}
 use Prim.Native.Nat.{ℕ}
-use lib.Dec.{eqb}
 use Rattle.std.specs.declared.option.Option.{Option}
 use Rattle.std.specs.declared.option.Option.the-variants.{Some, None}
 use Rattle.std.specs.declared.result.Result.the-variants.{Ok, Err}
 use Rattle.register.specs.declared.holding.Row.{Row}
 use Rattle.register.specs.Rules.{balance-of}
-use Rattle.orders.specs.declared.order.Trade.{Trade}
 use Rattle.orders.specs.declared.order.Side.{Side}
 use Rattle.orders.specs.declared.order.Side.the-variants.{Buy, Sell}
 use Rattle.orders.specs.declared.order.Term.{Term}
@@ -20,9 +18,10 @@ use Rattle.orders.specs.declared.order.Price.{Price}
 use Rattle.orders.specs.declared.order.Price.the-variants.{Limit, Market}
 use Rattle.orders.specs.declared.order.Call.{Call}
 use Rattle.orders.specs.declared.order.Call.the-variants.{Enter, Amend, Cancel, Suspend, Resume, Deposit, Withdraw, Reference, Open, Close}
 use Rattle.rules.specs.Faults.{fault-number}
 use Rattle.rules.specs.Refusals.{Lent}
 use Rattle.rules.specs.Market.{State, Answer, set-up, run}
+use Rattle.examples.specs.Examples.{numbers, same, all-same}
 
 -- a call with what it is lent, and its answer: number, trades and rounds, or the number of the refusal alone
 pub record Line : Type 0 where
@@ -35,7 +34,7 @@ line c a = record { lent = record { clean = true; room = 1024 }; call = c; answe
 
 -- the calls on four accounts in issue 1, each with so many free shares; the trades on the tape as buy, sell, quantity, price; and in the end
 -- an account with its free and held shares
-pub record Example : Type 0 where
+pub record Session : Type 0 where
   pub free : ℕ
   pub lines : List Line
   pub tape : List (List ℕ)
@@ -44,41 +43,26 @@ pub record Example : Type 0 where
 abbrev pub account : ℕ → ℕ → Row
 account free a = record { account = a; issue = 1; free = free; held = 0 }
 
-abbrev pub numbers : Answer → List ℕ
-numbers (Ok d) = d .number ∷ d .trades ∷ d .rounds ∷ []
-numbers (Err f) = fault-number f ∷ []
-
-abbrev pub trade-numbers : Trade → List ℕ
-trade-numbers t = t .buy ∷ t .sell ∷ t .quantity ∷ t .price ∷ []
+abbrev pub answer-numbers : Answer → List ℕ
+answer-numbers (Ok d) = d .number ∷ d .trades ∷ d .rounds ∷ []
+answer-numbers (Err f) = fault-number f ∷ []
 
 abbrev pub balance-numbers : ℕ → Option (ℕ × ℕ) → List ℕ
 balance-numbers a None = []
 balance-numbers a (Some p) = a ∷ p .0 ∷ p .1 ∷ []
 
-abbrev pub same : List ℕ → List ℕ → Bool
-same [] [] = true
-same [] (y ∷ ys) = false
-same (x ∷ xs) [] = false
-same (x ∷ xs) (y ∷ ys) = eqb x y && same xs ys
-
-abbrev pub all-same : List (List ℕ) → List (List ℕ) → Bool
-all-same [] [] = true
-all-same [] (y ∷ ys) = false
-all-same (x ∷ xs) [] = false
-all-same (x ∷ xs) (y ∷ ys) = same x y && all-same xs ys
-
 abbrev pub first-of : List ℕ → ℕ
 first-of [] = 0
 first-of (x ∷ xs) = x
 
-abbrev pub holds : Example → Bool
+abbrev pub holds : Session → Bool
 holds x =
     let r : List Answer × State = run (set-up (map (account (x .free)) (1 ∷ 2 ∷ 3 ∷ 4 ∷ []))) (map (λ l. (l .lent, l .call)) (x .lines)) in
     let a : ℕ = first-of (x .balance) in
-    all-same (map numbers (r .0)) (map (λ l. l .answer) (x .lines))
-    && (all-same (map trade-numbers (r .1 .tape)) (x .tape) && same (balance-numbers a (balance-of a 1 (r .1 .rows))) (x .balance))
+    all-same (map answer-numbers (r .0)) (map (λ l. l .answer) (x .lines))
+    && (all-same (map numbers (r .1 .tape)) (x .tape) && same (balance-numbers a (balance-of a 1 (r .1 .rows))) (x .balance))
 
-abbrev pub all-hold : List Example → Bool
+abbrev pub all-hold : List Session → Bool
 all-hold [] = true
 all-hold (x ∷ xs) = holds x && all-hold xs
 
@@ -108,7 +92,7 @@ abbrev pub no-trades : List (List ℕ)
 no-trades = []
 
 -- the session of the rules
-abbrev pub session : Example
+abbrev pub session : Session
 session = record {
   free = 0;
   lines =
@@ -125,7 +109,7 @@ session = record {
 }
 
 -- an opening and its rounds
-abbrev pub opening : Example
+abbrev pub opening : Session
 opening = record {
   free = 1000;
   lines =
@@ -141,7 +125,7 @@ opening = record {
 }
 
 -- a suspended sell keeps its cover, takes no part, and is resumed behind the others
-abbrev pub suspension : Example
+abbrev pub suspension : Session
 suspension = record {
   free = 1000;
   lines =
@@ -161,7 +145,7 @@ suspension = record {
 }
 
 -- market and now orders, and a self-sale
-abbrev pub market-now : Example
+abbrev pub market-now : Session
 market-now = record {
   free = 1000;
   lines =
@@ -179,7 +163,7 @@ market-now = record {
 }
 
 -- amendments: quantity alone keeps the place in rank, a price gives a new stamp; cover follows
-abbrev pub amendments : Example
+abbrev pub amendments : Session
 amendments = record {
   free = 1000;
   lines =
@@ -192,16 +176,20 @@ amendments = record {
       ∷ line (Amend 1 60 1250 Plain) (refused 7)
       ∷ line (Amend 2 100 1255 Plain) (refused 9)
       ∷ line (Amend 2 100 1250 (Least 101)) (refused 11)
+      ∷ line (sells 4 100 1250 Plain) (is-done 4 0 0)
+      ∷ line (Amend 2 100 1260 Plain) (is-done 2 0 0)
+      ∷ line (Amend 2 100 1250 Plain) (is-done 2 0 0)
+      ∷ line (buys 3 50 1250 Plain) (is-done 5 1 0)
       ∷ line (Cancel 2) (is-done 2 0 0)
       ∷ line Close zeros
       ∷ line (Deposit 1 1 1) (refused 2)
       ∷ [];
-  tape = trade 3 1 60 1250 ∷ [];
+  tape = trade 3 1 60 1250 ∷ trade 5 4 50 1250 ∷ [];
   balance = 1 ∷ 940 ∷ 0 ∷ [];
 }
 
 -- the other refusals, and the order of the checks
-abbrev pub refusals : Example
+abbrev pub refusals : Session
 refusals = record {
   free = 1000;
   lines =
@@ -233,8 +221,8 @@ refusals = record {
   balance = 1 ∷ 1000 ∷ 0 ∷ [];
 }
 
-abbrev pub table : List Example
+abbrev pub table : List Session
 table = session ∷ opening ∷ suspension ∷ market-now ∷ amendments ∷ refusals ∷ []
 
-abbrev pub Examples-hold : Type 0
-Examples-hold = all-hold table ≡ true
+abbrev pub Sessions-hold : Type 0
+Sessions-hold = all-hold table ≡ true
