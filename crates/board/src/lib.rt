@@ -1,4 +1,6 @@
 // The board: what a market keeps beside its register, its questions, and the checks that turn a call down.
+#![tactic(auto)]
+
 ghost use Rattle.std.specs.Prelude.{◌≡◌, ◌≤◌, length};
 
 use book::table::Table;

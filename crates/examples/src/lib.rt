@@ -1,4 +1,6 @@
 // The worked examples of the rules and sessions of whole calls, as tables that the checker computes.
+#![tactic(auto)]
+
 ghost use Rattle.examples.specs.Sessions.{SessionsHold};
 ghost use Rattle.examples.specs.Table.{ExamplesHold};
 

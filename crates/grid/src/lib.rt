@@ -1,4 +1,6 @@
 // The grid: accounts 1 to 64 open in issues 1 to 16.
+#![tactic(auto)]
+
 ghost use Rattle.std.specs.Prelude.{◌≡◌, ℕ, ◌+◌, ◌<◌, true, length, slice_index};
 ghost use Rattle.grid.specs.Cells.{grid_rows, new_balance};
 ghost use Rattle.register.specs.Rules.{lawful, total_of, balance_of};

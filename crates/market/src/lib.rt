@@ -1,4 +1,6 @@
 // The market: ten calls over a register of any kind, which the market holds as long as it stands.
+#![tactic(auto)]
+
 use board::Board;
 use register::contract::Register;
 

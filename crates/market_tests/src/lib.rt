@@ -1,4 +1,6 @@
 // The market at its edges, over the grid and over rows: every refusal, and the rules by worked days.
+#![tactic(auto)]
+
 #[cfg(test)]
 mod tests {
     use grid::Grid;

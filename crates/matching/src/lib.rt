@@ -1,4 +1,6 @@
 // Attempts and rounds over the order table.
+#![tactic(auto)]
+
 pub mod active;
 pub mod attempt;
 pub mod laws;

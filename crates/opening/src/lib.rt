@@ -1,4 +1,6 @@
 // The opening of issues: the opening price and the opening trades.
+#![tactic(auto)]
+
 mod candidate;
 pub mod laws;
 pub mod price;

@@ -1,4 +1,6 @@
 // Orders: their words, their bounds, their rank, the first of any entries by rank, and the guard of the caller's strip.
+#![tactic(auto)]
+
 pub mod bounds;
 pub mod laws;
 pub mod order;

@@ -1,4 +1,6 @@
 // A register of holdings: what it means, and the movers that any register is made of.
+#![tactic(auto)]
+
 pub mod contract;
 pub mod fault;
 pub mod holding;

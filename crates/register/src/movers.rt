@@ -45,7 +45,7 @@ fn moved_figures(m: Move, q: u64, free: u64, held: u64) -> Result<(u64, u64), Re
 }
 
 pub fn balance<T: Store>(t: &T, account: u64, issue: u64) -> Option<(u64, u64)>
-    ensures { result ≡ balance_of account issue (stored t.now) }
+    ensures { result ≡ balance_of account issue (T.stored t.now) }
 {
     match t.find(account, issue) {
         Some(k) => Some(t.figures(k)),
@@ -54,9 +54,9 @@ pub fn balance<T: Store>(t: &T, account: u64, issue: u64) -> Option<(u64, u64)>
 }
 
 pub fn deposit<T: Store>(t: &mut T, account: u64, issue: u64, q: u64) -> Result<(), RegisterFault>
-    ensures answers { result ≡ answer (deposited account issue q (stored t.old)) }
-    ensures leaves { stored t.new ≡ after (stored t.old) (deposited account issue q (stored t.old)) }
-    ensures stays { rest t.new ≡ rest t.old }
+    ensures answers { result ≡ answer (deposited account issue q (T.stored t.old)) }
+    ensures leaves { T.stored t.new ≡ after (T.stored t.old) (deposited account issue q (T.stored t.old)) }
+    ensures stays { T.rest t.new ≡ T.rest t.old }
     ensures keeps { is_err result ≡ true → t.new ≡ t.old }
 {
     let Some(k) = t.find(account, issue) else {
@@ -79,9 +79,9 @@ pub fn shift<T: Store>(
     issue: u64,
     q: u64,
 ) -> Result<(), RegisterFault>
-    ensures answers { result ≡ answer (moved m account issue q (stored t.old)) }
-    ensures leaves { stored t.new ≡ after (stored t.old) (moved m account issue q (stored t.old)) }
-    ensures stays { rest t.new ≡ rest t.old }
+    ensures answers { result ≡ answer (moved m account issue q (T.stored t.old)) }
+    ensures leaves { T.stored t.new ≡ after (T.stored t.old) (moved m account issue q (T.stored t.old)) }
+    ensures stays { T.rest t.new ≡ T.rest t.old }
     ensures keeps { is_err result ≡ true → t.new ≡ t.old }
 {
     let Some(k) = t.find(account, issue) else {
@@ -100,9 +100,9 @@ pub fn settle<T: Store>(
     issue: u64,
     q: u64,
 ) -> Result<(), RegisterFault>
-    ensures answers { result ≡ answer (settled seller buyer issue q (stored t.old)) }
-    ensures leaves { stored t.new ≡ after (stored t.old) (settled seller buyer issue q (stored t.old)) }
-    ensures stays { rest t.new ≡ rest t.old }
+    ensures answers { result ≡ answer (settled seller buyer issue q (T.stored t.old)) }
+    ensures leaves { T.stored t.new ≡ after (T.stored t.old) (settled seller buyer issue q (T.stored t.old)) }
+    ensures stays { T.rest t.new ≡ T.rest t.old }
     ensures keeps { is_err result ≡ true → t.new ≡ t.old }
 {
     let Some(from) = t.find(seller, issue) else {

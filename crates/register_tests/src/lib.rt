@@ -1,4 +1,6 @@
 // The registers at their edges, and what a caller's rows hold once a register over them is let go.
+#![tactic(auto)]
+
 ghost use Rattle.std.specs.Prelude.{◌≡◌, true, false};
 ghost use Rattle.rows.specs.Checks.{acceptable};
 ghost use Rattle.register.specs.Rules.{answer, after, settled};

@@ -1,4 +1,6 @@
 // How long it takes to find that no round is due, on a full table of one issue: 128 all buys and 128 all sells, of which none is ready.
+#![tactic(auto)]
+
 ghost use Rattle.std.specs.Prelude.{◌≡◌, true};
 ghost use Rattle.orders.specs.Strip.{clean};
 

@@ -1,4 +1,6 @@
 // A register over the caller's rows.
+#![tactic(auto)]
+
 ghost use Rattle.std.specs.Prelude.{◌≡◌, true};
 ghost use Rattle.rows.specs.Checks.{Lent, acceptable, checked, lent, meant};
 ghost use Rattle.register.specs.Rules.{lawful};

@@ -1,4 +1,6 @@
 // Reads the rows of a register from standard input, and prints its statement.
+#![tactic(auto)]
+
 use statements::report::report;
 use std::io;
 use std::io::{Read, Write};

@@ -1,4 +1,6 @@
 // Statements of damaged inputs and of rows at their edges.
+#![tactic(auto)]
+
 #[cfg(test)]
 mod tests {
     use statements::report::report;

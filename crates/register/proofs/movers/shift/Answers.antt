@@ -28,13 +28,13 @@ write-requires g c =
     let w = g.T.Store.lawfully c.args.t.now in
     let p = c.in-Some.ensures in
     let l = read_le c.args.account c.args.issue rs c.in-Some.k w p _ c.figures-free.ensures in
-    let less = c.in-ok-free.ensures.no_more in
+    let less = c.in_ok-free.ensures.no_more in
     record { within = p.within; fits = read_fits c.args.account c.args.issue rs c.in-Some.k w p _ c.figures-free.ensures _ (omega arith) }
 
 pub returns : goal.returns
 returns g c =
     let rs = g.T.Store.stored c.args.t.now in
     let w = g.T.Store.lawfully c.args.t.now in
-    let f = sym c.moved-figures.ensures.value ∙ c.in-ok-free.was in
+    let f = sym c.moved_figures.ensures.value ∙ c.in_ok-free.was in
     let e = moved_done c.args.account c.args.issue c.args.q rs c.in-Some.k w c.in-Some.ensures _ c.figures-free.ensures c.args.m _ _ f in
     record { answers = ap answer (sym e); leaves = c.write.ensures.sets ∙ ap (after rs) (sym e); stays = c.write.ensures.stays; keeps = λ x. absurd (false≢true x) }
