@@ -43,7 +43,7 @@ pub trait Entries {
 
 // No entry so far, or x comes before the best of them.
 fn comes_first<T: Ranked + Copy>(best: &Option<(usize, T)>, x: &T) -> bool
-    ensures { result ≡ leads before best.now x.now }
+    ensures { result ≡ leads T.before best.now x.now }
 {
     match best {
         None => true,
@@ -53,7 +53,7 @@ fn comes_first<T: Ranked + Copy>(best: &Option<(usize, T)>, x: &T) -> bool
 
 // The best so far gives way to the entry x at this place if x comes before it.
 fn choose<T: Ranked + Copy>(best: &mut Option<(usize, T)>, place: usize, x: T)
-    ensures { best.new ≡ chosen before best.old place x }
+    ensures { best.new ≡ chosen T.before best.old place x }
 {
     if comes_first(best, &x) {
         *best = Some((place, x));
@@ -62,7 +62,7 @@ fn choose<T: Ranked + Copy>(best: &mut Option<(usize, T)>, place: usize, x: T)
 
 // The first entry by rank, with its place.
 pub fn first<E: Entries>(entries: &E) -> Option<(usize, E::Entry)>
-    ensures { First E.Entry.Ranked.before (candidate entries.now) (count entries.now) result }
+    ensures { First E.Entry.Ranked.before (E.candidate entries.now) (E.count entries.now) result }
 {
     let n = entries.places();
     let mut best: Option<(usize, E::Entry)> = None;

@@ -58,7 +58,7 @@ impl<'a> Reader<'a> {
 
     // Passes the text, which has to stand here.
     pub fn literal<F: Form>(&mut self, text: &[u8]) -> Result<(), Malformed>
-        ensures { (G : Gram F.Value) → Reads spells (lits text.now G) (λ _. G) self.old result self.new }
+        ensures { (G : Gram F.Value) → Reads F.spells (lits text.now G) (λ _. G) self.old result self.new }
     {
         for b in text {
             if self.at >= self.line.len() || self.line[self.at] != *b {
@@ -73,7 +73,7 @@ impl<'a> Reader<'a> {
 
     // Passes a number and the byte that has to end it.
     pub fn number<F: Form>(&mut self, end: NumberEnd) -> Result<u64, Malformed>
-        ensures { (K : ℕ → Gram F.Value) → Reads spells (num (end_byte end) K) K self.old result self.new }
+        ensures { (K : ℕ → Gram F.Value) → Reads F.spells (num (end_byte end) K) K self.old result self.new }
     {
         let start = self.at;
         let Token::Number(ds) = self.peek() else {
@@ -97,7 +97,7 @@ impl<'a> Reader<'a> {
 
     // The value, if its text ends where the line does.
     pub fn end<F: Form>(&self, value: F::Value) -> Result<F::Value, Malformed>
-        ensures { Ends spells value self.now result }
+        ensures { Ends F.spells value self.now result }
     {
         if self.at < self.line.len() {
             return Err(Malformed {

@@ -27,7 +27,7 @@ returns-then-after-self g c = λ K line h.
     let one : get_or c.in-Number.ds.now 0 0 ≡ 48 → length c.in-Number.ds.now ≡ 1 =
     elim c.else-ds-gt1.branch [ else-ds-gt1-via-then-ds-gt1+else-ds-eq48 w ↦ λ e. absurd (w.if-ds-eq48.false e) | else-ds-gt1-via-else-ds-gt1 w ↦ λ e. omega (arith, w.if-ds-gt1.false, N.some) ] in
     column g.F.Form.spells (c.args.self.now.at + length c.in-Number.ds.now + 1) _ h.0 refl
-    (num_wrong g.F.Form.spells (end_low c.args.end) (here g.F.Form.spells h) N one c.if-ds-gt-MAX-DIGITS.false
+    (num_wrong g.F.Form.spells (end_low c.args.end) (here g.F.Form.spells h) N one c.if-ds-gt-MAX_DIGITS.false
     (elim c.then-after-self.branch [ then-after-self-via-then-after-self w ↦ λ lt e. omega (arith, w.if-after-self.true) | then-after-self-via-else-after-self+then-self-after w ↦ λ lt e. w.if-self-after.true (e ∙ sym w.byte.ensures) ]))
 
 pub returns : goal.returns
@@ -36,7 +36,7 @@ returns g c = λ K line h.
     let one : get_or c.in-Number.ds.now 0 0 ≡ 48 → length c.in-Number.ds.now ≡ 1 =
     elim c.else-ds-gt1.branch [ else-ds-gt1-via-then-ds-gt1+else-ds-eq48 w ↦ λ e. absurd (w.if-ds-eq48.false e) | else-ds-gt1-via-else-ds-gt1 w ↦ λ e. omega (arith, w.if-ds-gt1.false, N.some) ] in (
       h.0,
-      subst (λ n. Expects g.F.Form.spells (K n) line (c.args.self.now.at + length c.in-Number.ds.now + 1)) (sym c.digits-value.ensures)
+      subst (λ n. Expects g.F.Form.spells (K n) line (c.args.self.now.at + length c.in-Number.ds.now + 1)) (sym c.digits_value.ensures)
           (subst (λ l. Expects g.F.Form.spells (K (digits_value 10 c.in-Number.ds.now)) l (c.args.self.now.at + length c.in-Number.ds.now + 1)) h.0
-          (num_step g.F.Form.spells (end_low c.args.end) (here g.F.Form.spells h) N one c.if-ds-gt-MAX-DIGITS.false c.if-after-self.false (c.if-self-after.false ∙ c.byte.ensures))),
+          (num_step g.F.Form.spells (end_low c.args.end) (here g.F.Form.spells h) N one c.if-ds-gt-MAX_DIGITS.false c.if-after-self.false (c.if-self-after.false ∙ c.byte.ensures))),
     )
