@@ -5,8 +5,8 @@ use Rattle.register.proofs.Places.{read_le, read_fits, total_le}
 use Rattle.register.proofs.Moves.{deposited_done, deposited_over}
 use Rattle.register.proofs.movers.deposit.Goals as goal
 
-pub overflow-sub-total : goal.overflow-sub-total
-overflow-sub-total g c =
+pub overflow_sub-total : goal.overflow_sub-total
+overflow_sub-total g c =
     let l = total_le c.args.issue (g.T.Store.stored c.args.t.now) (g.T.Store.lawfully c.args.t.now) in
     omega arith
 
@@ -17,8 +17,8 @@ returns-then-q-total g c =
     let e = deposited_over c.args.account c.args.issue c.args.q rs c.in-Some.k w c.in-Some.ensures _ refl (omega arith) in
     record { answers = ap answer (sym e); leaves = ap (after rs) (sym e); stays = refl; keeps = λ _. refl }
 
-pub overflow-add-free : goal.overflow-add-free
-overflow-add-free g c =
+pub overflow_add-free : goal.overflow_add-free
+overflow_add-free g c =
     let rs = g.T.Store.stored c.args.t.now in
     let w = g.T.Store.lawfully c.args.t.now in
     let l = read_le c.args.account c.args.issue rs c.in-Some.k w c.in-Some.ensures _ c.figures-free.ensures in

@@ -25,8 +25,8 @@ write-requires g c =
     let l = read_le c.args.seller c.args.issue rs c.in-Some.from w p _ x in
     record { within = p.within; fits = read_fits c.args.seller c.args.issue rs c.in-Some.from w p _ x _ (omega arith) }
 
-pub overflow-add-free : goal.overflow-add-free
-overflow-add-free g c =
+pub overflow_add-free : goal.overflow_add-free
+overflow_add-free g c =
     let rs = g.T.Store.stored c.args.t.now in
     let w = g.T.Store.lawfully c.args.t.now in
     let p = c.in-Some.ensures in

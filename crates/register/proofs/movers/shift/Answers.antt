@@ -6,19 +6,19 @@ use Rattle.register.proofs.Places.{read_le, read_fits}
 use Rattle.register.proofs.Moves.{moved_done, moved_refused}
 use Rattle.register.proofs.movers.shift.Goals as goal
 
-pub moved-figures-requires : goal.moved-figures-requires
-moved-figures-requires g c =
+pub moved_figures-requires : goal.moved_figures-requires
+moved_figures-requires g c =
     let rs = g.T.Store.stored c.args.t.now in
     let w = g.T.Store.lawfully c.args.t.now in
     let l = read_le c.args.account c.args.issue rs c.in-Some.k w c.in-Some.ensures _ c.figures-free.ensures in
     omega arith
 
-pub returns-in-err-free : goal.returns-in-err-free
-returns-in-err-free g c =
+pub returns-in_err-free : goal.returns-in_err-free
+returns-in_err-free g c =
     let rs = g.T.Store.stored c.args.t.now in
     let w = g.T.Store.lawfully c.args.t.now in
-    let b = err_from_is_err_and c.from-residual.result c.from-residual.ensures.1 in
-    let f = sym c.moved-figures.ensures.value ∙ c.in-err-free.was in
+    let b = err_from_is_err_and c.from_residual.result c.from_residual.ensures.1 in
+    let f = sym c.moved_figures.ensures.value ∙ c.in_err-free.was in
     let e = moved_refused c.args.account c.args.issue c.args.q rs c.in-Some.k w c.in-Some.ensures _ c.figures-free.ensures c.args.m _ f in
     record { answers = b.1 ∙ ap Err b.2 ∙ ap answer (sym e); leaves = ap (after rs) (sym e); stays = refl; keeps = λ _. refl }
 

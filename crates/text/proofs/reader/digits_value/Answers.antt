@@ -6,11 +6,11 @@ use Rattle.std.proofs.lemmas.Str.{digit_value_digit}
 use Rattle.text.proofs.Numbers.{front_small}
 use Rattle.text.proofs.reader.digits_value.Goals as goal
 
-pub overflow-mul-n : goal.overflow-mul-n
-overflow-mul-n c = omega (arith, front_small c.args.ds.now c.loop-b.b-index c.requires.0 c.loop-b-test.true c.requires.1)
+pub overflow_mul-n : goal.overflow_mul-n
+overflow_mul-n c = omega (arith, front_small c.args.ds.now c.loop-b.b-index c.requires.0 c.loop-b-test.true c.requires.1)
 
-pub overflow-add-n : goal.overflow-add-n
-overflow-add-n c = omega (arith, front_small c.args.ds.now c.loop-b.b-index c.requires.0 c.loop-b-test.true c.requires.1)
+pub overflow_add-n : goal.overflow_add-n
+overflow_add-n c = omega (arith, front_small c.args.ds.now c.loop-b.b-index c.requires.0 c.loop-b-test.true c.requires.1)
 
 pub loop-b-preserved : goal.loop-b-preserved
 loop-b-preserved c =

@@ -5,21 +5,21 @@ use Rattle.text.proofs.Numbers.{end_low, here, column, no_digit_here, num_none, 
 use Rattle.text.proofs.cursor.Reader.number.Goals as goal
 use Rattle.text.proofs.cursor.Reader.number.Goals.{else-ds-gt1-via-then-ds-gt1+else-ds-eq48, else-ds-gt1-via-else-ds-gt1, then-after-self-via-then-after-self, then-after-self-via-else-after-self+then-self-after}
 
-pub returns-in-default : goal.returns-in-default
-returns-in-default g c = λ K line h.
+pub returns-in_default : goal.returns-in_default
+returns-in_default g c = λ K line h.
     column g.F.Form.spells (c.args.self.now.at + 1) _ h.0 refl
-    (num_none g.F.Form.spells (end_low c.args.end) (here g.F.Form.spells h) (no_digit_here _ _ c.peek.result c.peek.ensures c.in-default.not-Number))
+    (num_none g.F.Form.spells (end_low c.args.end) (here g.F.Form.spells h) (no_digit_here _ _ c.peek.result c.peek.ensures c.in_default.not-Number))
 
 pub returns-then-ds-eq48 : goal.returns-then-ds-eq48
 returns-then-ds-eq48 g c = λ K line h.
     column g.F.Form.spells (c.args.self.now.at + 1 + 1) _ h.0 (omega arith)
     (num_zero g.F.Form.spells (end_low c.args.end) (here g.F.Form.spells h) c.in-Number.ensures c.if-ds-eq48.true c.if-ds-gt1.true)
 
-pub returns-then-ds-gt-MAX-DIGITS : goal.returns-then-ds-gt-MAX-DIGITS
-returns-then-ds-gt-MAX-DIGITS g c = λ K line h.
+pub returns-then-ds-gt-MAX_DIGITS : goal.returns-then-ds-gt-MAX_DIGITS
+returns-then-ds-gt-MAX_DIGITS g c = λ K line h.
     let nz : get_or c.in-Number.ds.now 0 0 ≡ 48 → ⊥ = elim c.else-ds-gt1.branch [ else-ds-gt1-via-then-ds-gt1+else-ds-eq48 w ↦ w.if-ds-eq48.false | else-ds-gt1-via-else-ds-gt1 w ↦ λ e. omega (arith, w.if-ds-gt1.false) ] in
     column g.F.Form.spells (c.args.self.now.at + 13 + 1) _ h.0 (omega arith)
-    (num_long g.F.Form.spells (end_low c.args.end) (here g.F.Form.spells h) c.in-Number.ensures nz c.if-ds-gt-MAX-DIGITS.true)
+    (num_long g.F.Form.spells (end_low c.args.end) (here g.F.Form.spells h) c.in-Number.ensures nz c.if-ds-gt-MAX_DIGITS.true)
 
 pub returns-then-after-self : goal.returns-then-after-self
 returns-then-after-self g c = λ K line h.
