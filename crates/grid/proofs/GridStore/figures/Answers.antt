@@ -3,8 +3,8 @@ use Rattle.register.specs.declared.holding.Row.{Row}
 use Rattle.grid.proofs.Cells.{grid_length, grid_getD}
 use Rattle.grid.proofs.GridStore.figures.Goals as goal
 
-pub offset-bounds-self-place : goal.offset-bounds-self-place
-offset-bounds-self-place c = omega (arith, grid_length c.args.self.now.cells, c.args.self.now.wide)
+pub offset_bounds-self-place : goal.offset_bounds-self-place
+offset_bounds-self-place c = omega (arith, grid_length c.args.self.now.cells, c.args.self.now.wide)
 
 pub bounds-self-place : goal.bounds-self-place
 bounds-self-place c = omega (arith, grid_length c.args.self.now.cells, c.args.self.now.wide)

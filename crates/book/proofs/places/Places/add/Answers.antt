@@ -22,8 +22,8 @@ returns-in-Some c =
     let h : c.in-Some.i < length t.slots = omega (arith, f.0, t.long) in
     ap book c.write.ensures ∙ book_filled t.slots c.in-Some.i c.args.o h f.1 c.requires.fresh.0
 
-pub returns-in-default : goal.returns-in-default
-returns-in-default c =
+pub returns-in_default : goal.returns-in_default
+returns-in_default c =
     let t = c.args.self.now in
     let l = t.long in
-    absurd (omega (arith, c.requires.room, book_full t.slots (λ k h. c.in-default.ensures k (rw l at h)), l))
+    absurd (omega (arith, c.requires.room, book_full t.slots (λ k h. c.in_default.ensures k (rw l at h)), l))

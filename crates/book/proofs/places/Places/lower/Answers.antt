@@ -6,8 +6,8 @@ use Rattle.orders.proofs.Validity.{bounds_lowered}
 use Rattle.book.proofs.Slots.{apart_set, alone_like, bounded_set, bounded_at, less_left}
 use Rattle.book.proofs.places.Places.lower.Goals as goal
 
-pub invariant-of-self : goal.invariant-of-self
-invariant-of-self c =
+pub invariant_of-self : goal.invariant_of-self
+invariant_of-self c =
     let t = c.args.self.now in
     let ss = t.slots in
     let i = c.args.place in
@@ -15,16 +15,7 @@ invariant-of-self c =
     let p = c.reduce.new.o in
     let is = c.in-Some.is in
     let e = c.reduce.ensures in
-    let h : i < length ss = search rules in (
-      apart_set number_of ss i (Some p) h t.numbers (alone_like number_of ss i o p is (ap number_of (sym e)) t.numbers),
-      (
-        apart_set stamp_of ss i (Some p) h t.stamps (alone_like stamp_of ss i o p is (ap stamp_of (sym e)) t.stamps),
-        (
-          search rules,
-          (bounded_set ss i (Some p) t.valid (ap in_bounds e ∙ bounds_lowered c.args.q o (less_left (at ss i) o c.args.q is c.requires.less) (bounded_at ss i o t.valid is)), tt),
-        ),
-      ),
-    )
+    let h : i < length ss = search rules in record { numbers = apart_set number_of ss i (Some p) h t.numbers (alone_like number_of ss i o p is (ap number_of (sym e)) t.numbers); stamps = apart_set stamp_of ss i (Some p) h t.stamps (alone_like stamp_of ss i o p is (ap stamp_of (sym e)) t.stamps); long = search rules; valid = bounded_set ss i (Some p) t.valid (ap in_bounds e ∙ bounds_lowered c.args.q o (less_left (at ss i) o c.args.q is c.requires.less) (bounded_at ss i o t.valid is)) }
 
 pub returns-in-Some : goal.returns-in-Some
 returns-in-Some c o e =

@@ -28,9 +28,9 @@ returns-in-Some c =
     let r = holds_some o.number (at t.slots i) f.1 in
     ap book c.write.ensures ∙ book_changed (λ _. o) t.slots i r.0 h r.1 (sym r.2) t.numbers ∙ ap (λ n. changed n (λ _. o) (book t.slots)) r.2
 
-pub returns-in-default : goal.returns-in-default
-returns-in-default c =
+pub returns-in_default : goal.returns-in_default
+returns-in_default c =
     let t = c.args.self.now in
     let l = t.long in
     let o = c.args.o in
-    sym (changed_missing o.number (λ _. o) (book t.slots) (missing_book t.slots o.number (λ k h. c.in-default.ensures k (rw l at h))))
+    sym (changed_missing o.number (λ _. o) (book t.slots) (missing_book t.slots o.number (λ k h. c.in_default.ensures k (rw l at h))))

@@ -17,7 +17,7 @@ returns-in-Some c =
     let t = c.args.self.now in
     c.replace.ensures ∙ replaced_changed (resumed c.args.stamp) c.args.number c.in-Some.o (book t.slots) (book_distinct number_of t.slots t.numbers) (sym c.in-Some.ensures) refl
 
-pub returns-in-default : goal.returns-in-default
-returns-in-default c =
+pub returns-in_default : goal.returns-in_default
+returns-in_default c =
     let b = book c.args.self.now.slots in
-    sym (changed_missing c.args.number (resumed c.args.stamp) b (find_missing c.args.number b (sym c.in-default.ensures)))
+    sym (changed_missing c.args.number (resumed c.args.stamp) b (find_missing c.args.number b (sym c.in_default.ensures)))

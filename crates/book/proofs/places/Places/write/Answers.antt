@@ -3,15 +3,9 @@ use Rattle.orders.specs.Book.{number_of, stamp_of}
 use Rattle.book.proofs.Slots.{apart_set, bounded_set}
 use Rattle.book.proofs.places.Places.write.Goals as goal
 
-pub invariant-of-self : goal.invariant-of-self
-invariant-of-self c =
+pub invariant_of-self : goal.invariant_of-self
+invariant_of-self c =
     let t = c.args.self.now in
     let i = c.args.place in
     let s = c.args.slot in
-    let h : i < length t.slots = search rules in (
-      apart_set number_of t.slots i s h t.numbers c.requires.apart.0,
-      (
-        apart_set stamp_of t.slots i s h t.stamps c.requires.apart.1,
-        (search rules, (bounded_set t.slots i s t.valid c.requires.bounds, tt)),
-      ),
-    )
+    let h : i < length t.slots = search rules in record { numbers = apart_set number_of t.slots i s h t.numbers c.requires.apart.0; stamps = apart_set stamp_of t.slots i s h t.stamps c.requires.apart.1; long = search rules; valid = bounded_set t.slots i s t.valid c.requires.bounds }

@@ -5,22 +5,13 @@ use Rattle.std.proofs.lemmas.List.{length_push}
 use Rattle.book.proofs.Counters.{under_is, under_more, under_push}
 use Rattle.book.proofs.table.Table.place.Goals as goal
 
-pub invariant-of-self : goal.invariant-of-self
-invariant-of-self c =
+pub invariant_of-self : goal.invariant_of-self
+invariant_of-self c =
     let t = c.args.self.now in
     let b = book_of t in
     let n = t.number + 1 in
     let k = t.stamp + 1 in
-    let o = placed c.args.entry c.args.price n k in (
-      omega (arith, t.numbers),
-      (
-        omega (arith, c.requires.stamp),
-        (
-          under_is number_of (n + 1) c.add.ensures (under_push number_of (n + 1) b o (under_more number_of n (n + 1) b (omega arith) t.numbered) (omega arith)),
-          (under_is stamp_of (k + 1) c.add.ensures (under_push stamp_of (k + 1) b o (under_more stamp_of k (k + 1) b (omega arith) t.stamped) (omega arith)), tt),
-        ),
-      ),
-    )
+    let o = placed c.args.entry c.args.price n k in record { numbers = omega (arith, t.numbers); stamps = omega (arith, c.requires.stamp); numbered = under_is number_of (n + 1) c.add.ensures (under_push number_of (n + 1) b o (under_more number_of n (n + 1) b (omega arith) t.numbered) (omega arith)); stamped = under_is stamp_of (k + 1) c.add.ensures (under_push stamp_of (k + 1) b o (under_more stamp_of k (k + 1) b (omega arith) t.stamped) (omega arith)) }
 
 pub returns : goal.returns
 returns c =

@@ -5,20 +5,11 @@ use Rattle.orders.proofs.Changes.{length_without}
 use Rattle.book.proofs.Counters.{under_is, under_without}
 use Rattle.book.proofs.table.Table.remove.Goals as goal
 
-pub invariant-of-self : goal.invariant-of-self
-invariant-of-self c =
+pub invariant_of-self : goal.invariant_of-self
+invariant_of-self c =
     let t = c.args.self.now in
     let n = c.args.number in
-    let e = c.remove.ensures.book in (
-      t.numbers,
-      (
-        t.stamps,
-        (
-          under_is number_of (t.number + 1) e (under_without number_of (t.number + 1) n (book_of t) t.numbered),
-          (under_is stamp_of (t.stamp + 1) e (under_without stamp_of (t.stamp + 1) n (book_of t) t.stamped), tt),
-        ),
-      ),
-    )
+    let e = c.remove.ensures.book in record { numbers = t.numbers; stamps = t.stamps; numbered = under_is number_of (t.number + 1) e (under_without number_of (t.number + 1) n (book_of t) t.numbered); stamped = under_is stamp_of (t.stamp + 1) e (under_without stamp_of (t.stamp + 1) n (book_of t) t.stamped) }
 
 pub returns : goal.returns
 returns c =

@@ -5,20 +5,11 @@ use Rattle.orders.proofs.Changes.{length_changed}
 use Rattle.book.proofs.Counters.{under_is, under_changed}
 use Rattle.book.proofs.table.Table.suspend.Goals as goal
 
-pub invariant-of-self : goal.invariant-of-self
-invariant-of-self c =
+pub invariant_of-self : goal.invariant_of-self
+invariant_of-self c =
     let t = c.args.self.now in
     let n = c.args.number in
-    let b = book_of t in (
-      t.numbers,
-      (
-        t.stamps,
-        (
-          under_is number_of (t.number + 1) c.suspend.ensures (under_changed number_of (t.number + 1) n suspended b t.numbered (λ o h. h)),
-          (under_is stamp_of (t.stamp + 1) c.suspend.ensures (under_changed stamp_of (t.stamp + 1) n suspended b t.stamped (λ o h. h)), tt),
-        ),
-      ),
-    )
+    let b = book_of t in record { numbers = t.numbers; stamps = t.stamps; numbered = under_is number_of (t.number + 1) c.suspend.ensures (under_changed number_of (t.number + 1) n suspended b t.numbered (λ o h. h)); stamped = under_is stamp_of (t.stamp + 1) c.suspend.ensures (under_changed stamp_of (t.stamp + 1) n suspended b t.stamped (λ o h. h)) }
 
 pub returns : goal.returns
 returns c =

@@ -5,21 +5,12 @@ use Rattle.orders.proofs.Trades.{length_reduced}
 use Rattle.book.proofs.Counters.{under_is, under_reduced}
 use Rattle.book.proofs.table.Table.take.Goals as goal
 
-pub invariant-of-self : goal.invariant-of-self
-invariant-of-self c =
+pub invariant_of-self : goal.invariant_of-self
+invariant_of-self c =
     let t = c.args.self.now in
     let n = c.args.number in
     let q = c.args.q in
-    let e = c.take.ensures in (
-      t.numbers,
-      (
-        t.stamps,
-        (
-          under_is number_of (t.number + 1) e (under_reduced number_of (t.number + 1) n q (book_of t) (λ o. refl) t.numbered),
-          (under_is stamp_of (t.stamp + 1) e (under_reduced stamp_of (t.stamp + 1) n q (book_of t) (λ o. refl) t.stamped), tt),
-        ),
-      ),
-    )
+    let e = c.take.ensures in record { numbers = t.numbers; stamps = t.stamps; numbered = under_is number_of (t.number + 1) e (under_reduced number_of (t.number + 1) n q (book_of t) (λ o. refl) t.numbered); stamped = under_is stamp_of (t.stamp + 1) e (under_reduced stamp_of (t.stamp + 1) n q (book_of t) (λ o. refl) t.stamped) }
 
 pub returns : goal.returns
 returns c =
