@@ -59,7 +59,7 @@ fn write_pair<R: Register>(
     account: u64,
     issue: u64,
 ) -> Result<(), AllocError>
-    ensures { OnOk result (string_bytes out.new ≡ string_bytes out.old ++ balance_at account issue (rows register.now)) }
+    ensures { OnOk result (string_bytes out.new ≡ string_bytes out.old ++ balance_at account issue (R.rows register.now)) }
 {
     match register.balance(account, issue) {
         Some((free, held)) => write_balance(out, account, issue, free, held),
@@ -73,7 +73,7 @@ fn write_balances<R: Register>(
     register: &R,
     pairs: &[Row],
 ) -> Result<(), AllocError>
-    ensures { OnOk result (string_bytes out.new ≡ string_bytes out.old ++ balance_lines pairs.now (rows register.now)) }
+    ensures { OnOk result (string_bytes out.new ≡ string_bytes out.old ++ balance_lines pairs.now (R.rows register.now)) }
 {
     for pair in pairs {
         write_pair(out, register, pair.account, pair.issue)?;
@@ -100,7 +100,7 @@ fn write_issue<R: Register>(
     pairs: &[Row],
     issue: u64,
 ) -> Result<(), AllocError>
-    ensures { OnOk result (string_bytes out.new ≡ string_bytes out.old ++ total_at pairs.now (rows register.now) issue) }
+    ensures { OnOk result (string_bytes out.new ≡ string_bytes out.old ++ total_at pairs.now (R.rows register.now) issue) }
 {
     if names_issue(pairs, issue) {
         write_total(out, issue, register.total(issue))
@@ -115,7 +115,7 @@ fn write_totals<R: Register>(
     register: &R,
     pairs: &[Row],
 ) -> Result<(), AllocError>
-    ensures { OnOk result (string_bytes out.new ≡ string_bytes out.old ++ total_lines pairs.now (rows register.now)) }
+    ensures { OnOk result (string_bytes out.new ≡ string_bytes out.old ++ total_lines pairs.now (R.rows register.now)) }
 {
     for issue in 1..17 {
         write_issue(out, register, pairs, issue)?;
@@ -129,7 +129,7 @@ pub fn write_statement<R: Register>(
     register: &R,
     pairs: &[Row],
 ) -> Result<(), AllocError>
-    ensures { OnOk result (string_bytes out.new ≡ string_bytes out.old ++ (balance_lines pairs.now (rows register.now) ++ total_lines pairs.now (rows register.now))) }
+    ensures { OnOk result (string_bytes out.new ≡ string_bytes out.old ++ (balance_lines pairs.now (R.rows register.now) ++ total_lines pairs.now (R.rows register.now))) }
 {
     write_balances(out, register, pairs)?;
     write_totals(out, register, pairs)

@@ -7,8 +7,8 @@ use Rattle.orders.proofs.Tapes.{written_is}
 use Rattle.matching.proofs.Fairness.{attempt_working, attempt_idle, attempt_absent}
 use Rattle.matching.proofs.attempt.attempt.Goals as goal
 
-pub attempt-live-requires : goal.attempt-live-requires
-attempt-live-requires c =
+pub attempt_live-requires : goal.attempt_live-requires
+attempt_live-requires c =
     let b = book_of c.args.table.now in
     let e = sym c.in-Some.ensures in
     record { live = (ap (λ n. find n b) (found_number c.args.number b c.in-Some.a e) ∙ e, c.if-a.true); strip = c.requires.strip; room = c.requires.room }
@@ -17,7 +17,7 @@ pub returns-then-a : goal.returns-then-a
 returns-then-a c =
     let b = book_of c.args.table.now in
     let e = sym (attempt_working c.args.number b c.in-Some.a (sym c.in-Some.ensures) c.if-a.true) in
-    let h = c.attempt-live.ensures in
+    let h = c.attempt_live.ensures in
     record {
       book = h.book ∙ ap (λ ts. after ts b) e;
       number = h.number;

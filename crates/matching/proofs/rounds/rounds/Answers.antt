@@ -37,7 +37,7 @@ pub returns : goal.returns
 returns c =
     let h = c.loop-a.invariant.3 in
     let e = stands_end c.args.issue (book_of c.args.table.now) (book_of c.loop-a.table) c.args.tape.now c.loop-a.tape c.args.used c.loop-a.end c.loop-a.count h
-    c.loop-a.auto.tape (sym c.active.ensures.order ∙ c.in-default.is) in
+    c.loop-a.auto.tape (sym c.active.ensures.order ∙ c.in_default.is) in
     record {
       book = e.books;
       number = c.loop-a.invariant.1;

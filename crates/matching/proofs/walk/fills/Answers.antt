@@ -4,7 +4,7 @@ use Rattle.matching.specs.Listing.{facing}
 use Rattle.matching.proofs.Walking.{amount_turn, fill_end}
 use Rattle.matching.proofs.Listings.{rows_yes, rows_no, rows_end}
 use Rattle.matching.proofs.walk.fills.Goals as goal
-use Rattle.matching.proofs.walk.fills.Goals.{then-does-face, else-does-face}
+use Rattle.matching.proofs.walk.fills.Goals.{then-does_face, else-does_face}
 
 pub loop-row-preserved : goal.loop-row-preserved
 loop-row-preserved c =
@@ -13,14 +13,14 @@ loop-row-preserved c =
     let i = c.loop-row.row-index in
     let v = c.loop-row.w in
     let rest = facing a (drop (i + 1) rows) in
-    elim c.if-does-face.branch [
-      | then-does-face w ↦
-          let turn = ap (λ l. amount (walk v l)) (rows_yes (faces a) rows i c.loop-row-test.true (sym c.does-face.ensures ∙ w.if-does-face.true))
+    elim c.if-does_face.branch [
+      | then-does_face w ↦
+          let turn = ap (λ l. amount (walk v l)) (rows_yes (faces a) rows i c.loop-row-test.true (sym c.does_face.ensures ∙ w.if-does_face.true))
           ∙ amount_turn v w.offer-w.result _ rest w.offer-w.ensures.is in
           let less = ap (λ z. amount (walk z rest)) w.w-is in
           omega (arith, turn, less, w.w-is, w.offer-w.ensures.few, c.loop-row.invariant)
-      | else-does-face w ↦
-          let turn = ap (λ l. amount (walk v l)) (rows_no (faces a) rows i c.loop-row-test.true (sym c.does-face.ensures ∙ w.if-does-face.false)) in
+      | else-does_face w ↦
+          let turn = ap (λ l. amount (walk v l)) (rows_no (faces a) rows i c.loop-row-test.true (sym c.does_face.ensures ∙ w.if-does_face.false)) in
           let same = ap (λ z. amount (walk z rest)) w.w-is in
           omega (arith, turn, same, w.w-is, c.loop-row.invariant)
     ]

@@ -14,14 +14,14 @@ loop-close-preserved c =
     let k = c.loop-close.close-index in
     let closes = c.args.closes.now in
     let b₀ = book_of c.args.table.now in
-    let e = c.open-issue-next.ensures in
+    let e = c.open_issue-next.ensures in
     let inv = c.loop-close.invariant in (
       ap (λ n. n + 1) inv.0,
       omega (arith, c.loop-close-test.true),
       omega (arith, inv.2),
       omega (arith, inv.3, e.live),
-      issue_again c.loop-close.issue (get_or closes k 0) closes k c.loop-close.next c.open-issue-next.result c.loop-close.tape c.open-issue-next.new.tape
-          (book_of t) (book_of c.open-issue-next.new.table) c.args.used (all_trades 1 closes b₀) c.args.tape.now b₀
+      issue_again c.loop-close.issue (get_or closes k 0) closes k c.loop-close.next c.open_issue-next.result c.loop-close.tape c.open_issue-next.new.tape
+          (book_of t) (book_of c.open_issue-next.new.table) c.args.used (all_trades 1 closes b₀) c.args.tape.now b₀
           (omega (arith, c.loop-close-test.true)) refl (omega (arith, inv.3, c.requires.room, c.loop-close.auto.tape)) (sound_table t) e.count e.tape e.book inv.4,
       e.number ∙ inv.5,
       e.stamp ∙ inv.6,

@@ -8,8 +8,8 @@ use Rattle.opening.proofs.trades.open_issue.Goals as goal
 pub returns-in-Some : goal.returns-in-Some
 returns-in-Some c =
     let t = c.args.table.now in
-    let e = c.trade-at.ensures in
-    let o = opened c.args.issue c.args.close c.args.used c.trade-at.result (Some c.in-Some.price) c.args.tape.now c.trade-at.new.tape (book_of t) (book_of c.trade-at.new.table)
+    let e = c.trade_at.ensures in
+    let o = opened c.args.issue c.args.close c.args.used c.trade_at.result (Some c.in-Some.price) c.args.tape.now c.trade_at.new.tape (book_of t) (book_of c.trade_at.new.table)
     (sound_table t) c.in-Some.ensures.is e.count e.tape e.book in
     record { count = o.0; tape = o.1; book = o.2; live = o.3; number = e.number; stamp = e.stamp }
 

@@ -17,7 +17,7 @@ returns c =
     let b = book_of c.loop-t.table in
     let b₀ = book_of c.args.table.now in
     let inv = c.loop-t.invariant in
-    let end = c.in-default.ensures in
+    let end = c.in_default.ensures in
     let f = finish c.loop-t.next (trades b) c.loop-t.tape b c.args.used (trades b₀) c.args.tape.now b₀ end.trades
     (omega (arith, inv.0, inv.1, c.loop-t.auto.tape)) (record { count = inv.1; tapes = inv.2; books = inv.3 }) in
     record {

@@ -6,7 +6,7 @@ use Rattle.statements.proofs.write.write_balances.Goals as goal
 pub loop-pair-preserved : goal.loop-pair-preserved
 loop-pair-preserved g c =
     let rs = g.R.Register.rows c.args.register.now in
-    joined_turn (λ p. balance_at p.account p.issue rs) c.args.pairs.now c.loop-pair.pair-index no_row _ _ _ c.loop-pair-test.true c.loop-pair.invariant c.in-ok-write-pair.ensures
+    joined_turn (λ p. balance_at p.account p.issue rs) c.args.pairs.now c.loop-pair.pair-index no_row _ _ _ c.loop-pair-test.true c.loop-pair.invariant c.in_ok-write_pair.ensures
 
 pub returns : goal.returns
 returns g c =

@@ -11,7 +11,7 @@ loop-issue-init g c = refl
 pub loop-issue-preserved : goal.loop-issue-preserved
 loop-issue-preserved g c =
     let rs = g.R.Register.rows c.args.register.now in
-    counted_turn (total_at c.args.pairs.now rs) c.loop-issue.issue 17 _ _ _ c.loop-issue-test.true c.loop-issue.invariant c.in-ok-write-issue.ensures
+    counted_turn (total_at c.args.pairs.now rs) c.loop-issue.issue 17 _ _ _ c.loop-issue-test.true c.loop-issue.invariant c.in_ok-write_issue.ensures
 
 pub returns : goal.returns
 returns g c =
