@@ -125,14 +125,14 @@ pub(crate) fn tape_short(board: &Board, tape: &[Trade]) -> bool
 }
 
 pub(crate) fn is_open<R: Register>(register: &R, account: u64, issue: u64) -> bool
-    ensures { result ≡ is_open account issue (rows register.now) }
+    ensures { result ≡ is_open account issue (R.rows register.now) }
 {
     register.balance(account, issue).is_some()
 }
 
 // The pair's free shares are below the quantity.
 pub(crate) fn too_few<R: Register>(register: &R, account: u64, issue: u64, quantity: u64) -> bool
-    ensures { result ≡ too_few account issue quantity (rows register.now) }
+    ensures { result ≡ too_few account issue quantity (R.rows register.now) }
 {
     match register.balance(account, issue) {
         Some((free, _)) => free < quantity,

@@ -41,7 +41,7 @@ fn check_terms(price: Price, quantity: u64, term: Term) -> Result<(), MarketFaul
 impl Board {
     // What an entry asks of the live orders, the register and the counters: its limit, if nothing turns it down.
     fn check_entry<R: Register>(&self, register: &R, entry: Entry) -> Result<u64, MarketFault>
-        ensures refusal { refusal_of result ≡ entry_refusal (ledger_of self.now) (rows register.now) entry }
+        ensures refusal { refusal_of result ≡ entry_refusal (ledger_of self.now) (R.rows register.now) entry }
         ensures limit { IfOk result (λ p. p ≡ limit_for entry.price (best_opposite entry.issue entry.side (book_of self.now.table))) }
         ensures price { IfOk result (λ p. limit_breaks entry.price ≡ false → breaks_price p ≡ false) }
         ensures room { OnOk result (length (book_of self.now.table) < 256) }
@@ -73,7 +73,7 @@ impl Board {
         strip: &[u8],
         entry: Entry,
     ) -> Result<u64, MarketFault>
-        ensures refusal { refusal_of result ≡ refused self.now tape.now strip.now (rows register.now) (Enter entry) }
+        ensures refusal { refusal_of result ≡ refused self.now tape.now strip.now (R.rows register.now) (Enter entry) }
         ensures limit { IfOk result (λ p. p ≡ limit_for entry.price (best_opposite entry.issue entry.side (book_of self.now.table))) }
         ensures price { IfOk result (λ p. breaks_price p ≡ false) }
         ensures quantity { OnOk result (breaks_quantity entry.quantity ≡ false) }
@@ -102,7 +102,7 @@ impl Board {
         price: u64,
         term: Term,
     ) -> Result<Order, MarketFault>
-        ensures refusal { refusal_of result ≡ refused self.now tape.now strip.now (rows register.now) (Amend number quantity price term) }
+        ensures refusal { refusal_of result ≡ refused self.now tape.now strip.now (R.rows register.now) (Amend number quantity price term) }
         ensures order { IfOk result (λ o. find number (book_of self.now.table) ≡ Some o) }
         ensures price { OnOk result (breaks_price price ≡ false) }
         ensures quantity { OnOk result (breaks_quantity quantity ≡ false) }
