@@ -21,10 +21,10 @@ impl<'r, R: Register> Market<'r, R> {
         strip: &mut [u8],
         entry: Entry,
     ) -> Result<Outcome, MarketFault>
-        ensures does { Called self.old.board (rows self.old.register.now) tape.old strip.old (Enter entry) result self.new.board (rows self.new.register.now) tape.new strip.new }
+        ensures does { Called self.old.board (R.rows self.old.register.now) tape.old strip.old (Enter entry) result self.new.board (R.rows self.new.register.now) tape.new strip.new }
         ensures cleared { is_ok result ≡ true → clean strip.new ≡ true }
         ensures kept { is_err result ≡ true → self.new.register.now ≡ self.old.register.now }
-        ensures stays { rest self.new.register.now ≡ rest self.old.register.now }
+        ensures stays { R.rest self.new.register.now ≡ R.rest self.old.register.now }
         ensures named { self.new.register.ghost_name ≡ self.old.register.ghost_name }
     {
         let price = self.board.check_enter(self.register, tape, strip, entry)?;
@@ -52,10 +52,10 @@ impl<'r, R: Register> Market<'r, R> {
         price: u64,
         term: Term,
     ) -> Result<Outcome, MarketFault>
-        ensures does { Called self.old.board (rows self.old.register.now) tape.old strip.old (Amend number quantity price term) result self.new.board (rows self.new.register.now) tape.new strip.new }
+        ensures does { Called self.old.board (R.rows self.old.register.now) tape.old strip.old (Amend number quantity price term) result self.new.board (R.rows self.new.register.now) tape.new strip.new }
         ensures cleared { is_ok result ≡ true → clean strip.new ≡ true }
         ensures kept { is_err result ≡ true → self.new.register.now ≡ self.old.register.now }
-        ensures stays { rest self.new.register.now ≡ rest self.old.register.now }
+        ensures stays { R.rest self.new.register.now ≡ R.rest self.old.register.now }
         ensures named { self.new.register.ghost_name ≡ self.old.register.ghost_name }
     {
         let o = self
@@ -84,10 +84,10 @@ impl<'r, R: Register> Market<'r, R> {
         strip: &mut [u8],
         number: u64,
     ) -> Result<Outcome, MarketFault>
-        ensures does { Called self.old.board (rows self.old.register.now) tape.old strip.old (Cancel number) result self.new.board (rows self.new.register.now) tape.new strip.new }
+        ensures does { Called self.old.board (R.rows self.old.register.now) tape.old strip.old (Cancel number) result self.new.board (R.rows self.new.register.now) tape.new strip.new }
         ensures cleared { is_ok result ≡ true → clean strip.new ≡ true }
         ensures kept { is_err result ≡ true → self.new.register.now ≡ self.old.register.now }
-        ensures stays { rest self.new.register.now ≡ rest self.old.register.now }
+        ensures stays { R.rest self.new.register.now ≡ R.rest self.old.register.now }
         ensures named { self.new.register.ghost_name ≡ self.old.register.ghost_name }
     {
         let o = self.board.check_live(tape, strip, number)?;
@@ -102,10 +102,10 @@ impl<'r, R: Register> Market<'r, R> {
         strip: &mut [u8],
         number: u64,
     ) -> Result<Outcome, MarketFault>
-        ensures does { Called self.old.board (rows self.old.register.now) tape.old strip.old (Suspend number) result self.new.board (rows self.new.register.now) tape.new strip.new }
+        ensures does { Called self.old.board (R.rows self.old.register.now) tape.old strip.old (Suspend number) result self.new.board (R.rows self.new.register.now) tape.new strip.new }
         ensures cleared { is_ok result ≡ true → clean strip.new ≡ true }
         ensures kept { is_err result ≡ true → self.new.register.now ≡ self.old.register.now }
-        ensures stays { rest self.new.register.now ≡ rest self.old.register.now }
+        ensures stays { R.rest self.new.register.now ≡ R.rest self.old.register.now }
         ensures named { self.new.register.ghost_name ≡ self.old.register.ghost_name }
     {
         let o = self.board.check_suspend(tape, strip, number)?;
@@ -121,10 +121,10 @@ impl<'r, R: Register> Market<'r, R> {
         strip: &mut [u8],
         number: u64,
     ) -> Result<Outcome, MarketFault>
-        ensures does { Called self.old.board (rows self.old.register.now) tape.old strip.old (Resume number) result self.new.board (rows self.new.register.now) tape.new strip.new }
+        ensures does { Called self.old.board (R.rows self.old.register.now) tape.old strip.old (Resume number) result self.new.board (R.rows self.new.register.now) tape.new strip.new }
         ensures cleared { is_ok result ≡ true → clean strip.new ≡ true }
         ensures kept { is_err result ≡ true → self.new.register.now ≡ self.old.register.now }
-        ensures stays { rest self.new.register.now ≡ rest self.old.register.now }
+        ensures stays { R.rest self.new.register.now ≡ R.rest self.old.register.now }
         ensures named { self.new.register.ghost_name ≡ self.old.register.ghost_name }
     {
         let o = self.board.check_resume(tape, strip, number)?;

@@ -30,12 +30,12 @@ pub(crate) fn by_rounds<R: Register>(
     requires strip { clean strip.old ≡ true }
     requires room { Room board.old tape.old }
     requires before { (before.rounds ≤ before.trades) × (before.trades ≤ board.old.used) }
-    ensures does { (Ok result, state_of board.new (rows register.new) tape.new) ≡ by_rounds before.number issue before.trades before.rounds (state_of board.old (rows register.old) tape.old) }
+    ensures does { (Ok result, state_of board.new (R.rows register.new) tape.new) ≡ by_rounds before.number issue before.trades before.rounds (state_of board.old (R.rows register.old) tape.old) }
     ensures after { (result.rounds ≤ result.trades) × (result.trades ≤ board.new.used) }
     ensures fewer { needed board.new ≤ needed board.old }
     ensures strip { strip.new ≡ strip.old }
     ensures rest { Grown board.old.used tape.old board.new.used tape.new }
-    ensures stays { rest register.new ≡ rest register.old }
+    ensures stays { R.rest register.new ≡ R.rest register.old }
 {
     let (made, count) = execute_rounds(register, board, tape, strip, issue);
     Outcome {
@@ -56,10 +56,10 @@ pub(crate) fn finish<R: Register>(
 ) -> Outcome
     requires strip { clean strip.old ≡ true }
     requires room { Room board.old tape.old }
-    ensures does { (Ok result, state_of board.new (rows register.new) tape.new) ≡ finished board.old.phase number issue (state_of board.old (rows register.old) tape.old) }
+    ensures does { (Ok result, state_of board.new (R.rows register.new) tape.new) ≡ finished board.old.phase number issue (state_of board.old (R.rows register.old) tape.old) }
     ensures strip { strip.new ≡ strip.old }
     ensures rest { Grown board.old.used tape.old board.new.used tape.new }
-    ensures stays { rest register.new ≡ rest register.old }
+    ensures stays { R.rest register.new ≡ R.rest register.old }
 {
     let before = Outcome {
         number,
@@ -75,12 +75,12 @@ pub(crate) fn finish<R: Register>(
 
 // Ends a live order: a sell releases what it has left.
 pub(crate) fn end_order<R: Register>(register: &mut R, table: &mut Table, number: u64)
-    ensures rows { rows register.new ≡ ended_rows (find number (book_of table.old)) (rows register.old) }
+    ensures rows { R.rows register.new ≡ ended_rows (find number (book_of table.old)) (R.rows register.old) }
     ensures book { book_of table.new ≡ without number (book_of table.old) }
     ensures live { length (book_of table.new) ≤ length (book_of table.old) }
     ensures number { table.new.number ≡ table.old.number }
     ensures stamp { table.new.stamp ≡ table.old.stamp }
-    ensures stays { rest register.new ≡ rest register.old }
+    ensures stays { R.rest register.new ≡ R.rest register.old }
 {
     if let Some(o) = table.remove(number) {
         release(register, o);
@@ -89,10 +89,10 @@ pub(crate) fn end_order<R: Register>(register: &mut R, table: &mut Table, number
 
 // Ends what is left of a now order.
 pub(crate) fn end_if_now<R: Register>(register: &mut R, board: &mut Board, life: Life, number: u64)
-    ensures state { (tape : List Trade) → state_of board.new (rows register.new) tape ≡ if_now life number (state_of board.old (rows register.old) tape) }
+    ensures state { (tape : List Trade) → state_of board.new (R.rows register.new) tape ≡ if_now life number (state_of board.old (R.rows register.old) tape) }
     ensures used { board.new.used ≡ board.old.used }
     ensures fewer { needed board.new ≤ needed board.old }
-    ensures stays { rest register.new ≡ rest register.old }
+    ensures stays { R.rest register.new ≡ R.rest register.old }
 {
     match life {
         Life::Day => {}
@@ -112,10 +112,10 @@ pub(crate) fn attempt<R: Register>(
 ) -> Outcome
     requires strip { clean strip.old ≡ true }
     requires room { Room board.old tape.old }
-    ensures does { (Ok result, state_of board.new (rows register.new) tape.new) ≡ tried board.old.phase life number issue (state_of board.old (rows register.old) tape.old) }
+    ensures does { (Ok result, state_of board.new (R.rows register.new) tape.new) ≡ tried board.old.phase life number issue (state_of board.old (R.rows register.old) tape.old) }
     ensures strip { strip.new ≡ strip.old }
     ensures rest { Grown board.old.used tape.old board.new.used tape.new }
-    ensures stays { rest register.new ≡ rest register.old }
+    ensures stays { R.rest register.new ≡ R.rest register.old }
 {
     match board.phase {
         Phase::Continuous => {
@@ -152,10 +152,10 @@ pub(crate) fn rounds_in_all<R: Register>(
     requires strip { clean strip.old ≡ true }
     requires room { Room board.old tape.old }
     requires made { made ≤ board.old.used }
-    ensures does { (Ok result, state_of board.new (rows register.new) tape.new) ≡ rounds_in issues (done 0 made 0, state_of board.old (rows register.old) tape.old) }
+    ensures does { (Ok result, state_of board.new (R.rows register.new) tape.new) ≡ rounds_in issues (done 0 made 0, state_of board.old (R.rows register.old) tape.old) }
     ensures strip { strip.new ≡ strip.old }
     ensures rest { Grown board.old.used tape.old board.new.used tape.new }
-    ensures stays { rest register.new ≡ rest register.old }
+    ensures stays { R.rest register.new ≡ R.rest register.old }
 {
     let mut outcome = Outcome {
         number: 0,

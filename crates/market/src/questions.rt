@@ -21,7 +21,7 @@ impl<'r, R: Register> Market<'r, R> {
 
     // The price at which an issue would open.
     pub fn opening_price(&self, issue: u64) -> Option<u64>
-        ensures { (tape : List Trade) → result ≡ opening_question issue (state_of self.now.board (rows self.now.register.now) tape) }
+        ensures { (tape : List Trade) → result ≡ opening_question issue (state_of self.now.board (R.rows self.now.register.now) tape) }
     {
         self.board.opening_price(issue)
     }
@@ -55,14 +55,14 @@ impl<'r, R: Register> Market<'r, R> {
 
     // Free and held shares of a pair, absent where it is not open.
     pub fn balance(&self, account: u64, issue: u64) -> Option<(u64, u64)>
-        ensures { result ≡ balance_of account issue (rows self.now.register.now) }
+        ensures { result ≡ balance_of account issue (R.rows self.now.register.now) }
     {
         self.register.balance(account, issue)
     }
 
     // Free plus held over the open pairs of an issue.
     pub fn total(&self, issue: u64) -> u64
-        ensures { result ≡ total_of issue (rows self.now.register.now) }
+        ensures { result ≡ total_of issue (R.rows self.now.register.now) }
     {
         self.register.total(issue)
     }

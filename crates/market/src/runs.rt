@@ -20,9 +20,9 @@ impl<'r, R: Register> Market<'r, R> {
         strip: &mut [u8],
         call: Call,
     ) -> Result<Outcome, MarketFault>
-        ensures does { Called self.old.board (rows self.old.register.now) tape.old strip.old call result self.new.board (rows self.new.register.now) tape.new strip.new }
+        ensures does { Called self.old.board (R.rows self.old.register.now) tape.old strip.old call result self.new.board (R.rows self.new.register.now) tape.new strip.new }
         ensures kept { is_err result ≡ true → self.new.register.now ≡ self.old.register.now }
-        ensures stays { rest self.new.register.now ≡ rest self.old.register.now }
+        ensures stays { R.rest self.new.register.now ≡ R.rest self.old.register.now }
         ensures named { self.new.register.ghost_name ≡ self.old.register.ghost_name }
     {
         match call {
@@ -60,11 +60,11 @@ impl<'r, R: Register> Market<'r, R> {
         strip: &mut [u8],
         calls: &[Call],
     ) -> Result<Vec<Result<Outcome, MarketFault>>, AllocError>
-        ensures does { IfOk result (λ v. (v.items, state_of self.new.board (rows self.new.register.now) tape.new) ≡ run_of (state_of self.old.board (rows self.old.register.now) tape.old) (lent_calls (lent_by tape.old strip.old) calls.now)) }
+        ensures does { IfOk result (λ v. (v.items, state_of self.new.board (R.rows self.new.register.now) tape.new) ≡ run_of (state_of self.old.board (R.rows self.old.register.now) tape.old) (lent_calls (lent_by tape.old strip.old) calls.now)) }
         ensures untouched { is_err result ≡ true → (self.new.board ≡ self.old.board) × (self.new.register.now ≡ self.old.register.now) × (tape.new ≡ tape.old) }
         ensures strip { strip.new ≡ strip.old }
         ensures rest { Grown self.old.board.used tape.old self.new.board.used tape.new }
-        ensures stays { rest self.new.register.now ≡ rest self.old.register.now }
+        ensures stays { R.rest self.new.register.now ≡ R.rest self.old.register.now }
         ensures named { self.new.register.ghost_name ≡ self.old.register.ghost_name }
     {
         let mut outcomes = Vec::with_capacity(heap, calls.len())?;
@@ -85,11 +85,11 @@ pub fn run<R: Register>(
     strip: &mut [u8],
     calls: &[Call],
 ) -> Result<(Board, Vec<Result<Outcome, MarketFault>>), AllocError>
-    ensures does { IfOk result (λ x. (x.1.items, state_of x.0 (rows register.new) tape.new) ≡ run_of (set_up (rows register.old)) (lent_calls (lent_by tape.old strip.old) calls.now)) }
+    ensures does { IfOk result (λ x. (x.1.items, state_of x.0 (R.rows register.new) tape.new) ≡ run_of (set_up (R.rows register.old)) (lent_calls (lent_by tape.old strip.old) calls.now)) }
     ensures rest { IfOk result (λ x. drop x.0.used tape.new ≡ drop x.0.used tape.old) }
     ensures untouched { is_err result ≡ true → (register.new ≡ register.old) × (tape.new ≡ tape.old) }
     ensures strip { strip.new ≡ strip.old }
-    ensures stays { rest register.new ≡ rest register.old }
+    ensures stays { R.rest register.new ≡ R.rest register.old }
 {
     let mut market = Market::new(register);
     let outcomes = market.make_all(heap, tape, strip, calls)?;

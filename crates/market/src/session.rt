@@ -32,10 +32,10 @@ impl<'r, R: Register> Market<'r, R> {
         issue: u64,
         quantity: u64,
     ) -> Result<Outcome, MarketFault>
-        ensures does { (lent : Lent) (tape : List Trade) → (result, state_of self.new.board (rows self.new.register.now) tape) ≡ step lent (state_of self.old.board (rows self.old.register.now) tape) (Deposit account issue quantity) }
+        ensures does { (lent : Lent) (tape : List Trade) → (result, state_of self.new.board (R.rows self.new.register.now) tape) ≡ step lent (state_of self.old.board (R.rows self.old.register.now) tape) (Deposit account issue quantity) }
         ensures used { self.new.board.used ≡ self.old.board.used }
         ensures kept { is_err result ≡ true → self.new.register.now ≡ self.old.register.now }
-        ensures stays { rest self.new.register.now ≡ rest self.old.register.now }
+        ensures stays { R.rest self.new.register.now ≡ R.rest self.old.register.now }
         ensures named { self.new.register.ghost_name ≡ self.old.register.ghost_name }
     {
         self.board.check_moving()?;
@@ -50,10 +50,10 @@ impl<'r, R: Register> Market<'r, R> {
         issue: u64,
         quantity: u64,
     ) -> Result<Outcome, MarketFault>
-        ensures does { (lent : Lent) (tape : List Trade) → (result, state_of self.new.board (rows self.new.register.now) tape) ≡ step lent (state_of self.old.board (rows self.old.register.now) tape) (Withdraw account issue quantity) }
+        ensures does { (lent : Lent) (tape : List Trade) → (result, state_of self.new.board (R.rows self.new.register.now) tape) ≡ step lent (state_of self.old.board (R.rows self.old.register.now) tape) (Withdraw account issue quantity) }
         ensures used { self.new.board.used ≡ self.old.board.used }
         ensures kept { is_err result ≡ true → self.new.register.now ≡ self.old.register.now }
-        ensures stays { rest self.new.register.now ≡ rest self.old.register.now }
+        ensures stays { R.rest self.new.register.now ≡ R.rest self.old.register.now }
         ensures named { self.new.register.ghost_name ≡ self.old.register.ghost_name }
     {
         self.board.check_moving()?;
@@ -63,10 +63,10 @@ impl<'r, R: Register> Market<'r, R> {
 
     // Sets the previous close of an issue.
     pub fn reference(&mut self, issue: u64, price: u64) -> Result<Outcome, MarketFault>
-        ensures does { (lent : Lent) (tape : List Trade) → (result, state_of self.new.board (rows self.new.register.now) tape) ≡ step lent (state_of self.old.board (rows self.old.register.now) tape) (Reference issue price) }
+        ensures does { (lent : Lent) (tape : List Trade) → (result, state_of self.new.board (R.rows self.new.register.now) tape) ≡ step lent (state_of self.old.board (R.rows self.old.register.now) tape) (Reference issue price) }
         ensures used { self.new.board.used ≡ self.old.board.used }
         ensures kept { is_err result ≡ true → self.new.register.now ≡ self.old.register.now }
-        ensures stays { rest self.new.register.now ≡ rest self.old.register.now }
+        ensures stays { R.rest self.new.register.now ≡ R.rest self.old.register.now }
         ensures named { self.new.register.ghost_name ≡ self.old.register.ghost_name }
     {
         self.board.check_reference(issue, price)?;
@@ -76,10 +76,10 @@ impl<'r, R: Register> Market<'r, R> {
 
     // Opens: each issue trades at its opening price, then rounds follow in each.
     pub fn open(&mut self, tape: &mut [Trade], strip: &mut [u8]) -> Result<Outcome, MarketFault>
-        ensures does { Called self.old.board (rows self.old.register.now) tape.old strip.old Open result self.new.board (rows self.new.register.now) tape.new strip.new }
+        ensures does { Called self.old.board (R.rows self.old.register.now) tape.old strip.old Open result self.new.board (R.rows self.new.register.now) tape.new strip.new }
         ensures cleared { is_ok result ≡ true → clean strip.new ≡ true }
         ensures kept { is_err result ≡ true → self.new.register.now ≡ self.old.register.now }
-        ensures stays { rest self.new.register.now ≡ rest self.old.register.now }
+        ensures stays { R.rest self.new.register.now ≡ R.rest self.old.register.now }
         ensures named { self.new.register.ghost_name ≡ self.old.register.ghost_name }
     {
         self.board.check_open(tape, strip)?;
@@ -90,10 +90,10 @@ impl<'r, R: Register> Market<'r, R> {
 
     // Closes: every order ends.
     pub fn close(&mut self) -> Result<Outcome, MarketFault>
-        ensures does { (lent : Lent) (tape : List Trade) → (result, state_of self.new.board (rows self.new.register.now) tape) ≡ step lent (state_of self.old.board (rows self.old.register.now) tape) Close }
+        ensures does { (lent : Lent) (tape : List Trade) → (result, state_of self.new.board (R.rows self.new.register.now) tape) ≡ step lent (state_of self.old.board (R.rows self.old.register.now) tape) Close }
         ensures used { self.new.board.used ≡ self.old.board.used }
         ensures kept { is_err result ≡ true → self.new.register.now ≡ self.old.register.now }
-        ensures stays { rest self.new.register.now ≡ rest self.old.register.now }
+        ensures stays { R.rest self.new.register.now ≡ R.rest self.old.register.now }
         ensures named { self.new.register.ghost_name ≡ self.old.register.ghost_name }
     {
         self.board.check_close()?;

@@ -9,8 +9,8 @@ use register::contract::Register;
 
 // Settles the trades, one after the other.
 pub(crate) fn settle_all<R: Register>(register: &mut R, trades: &[Trade])
-    ensures rows { rows register.new ≡ all_settled trades.now (rows register.old) }
-    ensures stays { rest register.new ≡ rest register.old }
+    ensures rows { R.rows register.new ≡ all_settled trades.now (R.rows register.old) }
+    ensures stays { R.rest register.new ≡ R.rest register.old }
 {
     for t in trades {
         let _ = register.settle(t.seller, t.buyer, t.issue, t.quantity);
@@ -19,8 +19,8 @@ pub(crate) fn settle_all<R: Register>(register: &mut R, trades: &[Trade])
 
 // A sell that ends releases what it has left.
 pub(crate) fn release<R: Register>(register: &mut R, o: Order)
-    ensures rows { rows register.new ≡ released_by o.side o (rows register.old) }
-    ensures stays { rest register.new ≡ rest register.old }
+    ensures rows { R.rows register.new ≡ released_by o.side o (R.rows register.old) }
+    ensures stays { R.rest register.new ≡ R.rest register.old }
 {
     match o.side {
         Side::Buy => {}
@@ -32,8 +32,8 @@ pub(crate) fn release<R: Register>(register: &mut R, o: Order)
 
 // An entry to sell is covered by a hold.
 pub(crate) fn cover<R: Register>(register: &mut R, entry: Entry)
-    ensures rows { rows register.new ≡ covered entry.side entry (rows register.old) }
-    ensures stays { rest register.new ≡ rest register.old }
+    ensures rows { R.rows register.new ≡ covered entry.side entry (R.rows register.old) }
+    ensures stays { R.rest register.new ≡ R.rest register.old }
 {
     match entry.side {
         Side::Buy => {}
@@ -45,8 +45,8 @@ pub(crate) fn cover<R: Register>(register: &mut R, entry: Entry)
 
 // A sell amended to another quantity holds or releases the difference.
 pub(crate) fn recover<R: Register>(register: &mut R, o: Order, quantity: u64)
-    ensures rows { rows register.new ≡ recovered o.side o quantity (rows register.old) }
-    ensures stays { rest register.new ≡ rest register.old }
+    ensures rows { R.rows register.new ≡ recovered o.side o quantity (R.rows register.old) }
+    ensures stays { R.rest register.new ≡ R.rest register.old }
 {
     match o.side {
         Side::Buy => {}
@@ -62,11 +62,11 @@ pub(crate) fn recover<R: Register>(register: &mut R, o: Order, quantity: u64)
 
 // Ends every order, from the lowest number up.
 pub(crate) fn end_all<R: Register>(register: &mut R, table: &mut Table)
-    ensures rows { rows register.new ≡ all_ended (book_of table.old) (rows register.old) }
+    ensures rows { R.rows register.new ≡ all_ended (book_of table.old) (R.rows register.old) }
     ensures book { book_of table.new ≡ [] }
     ensures number { table.new.number ≡ table.old.number }
     ensures stamp { table.new.stamp ≡ table.old.stamp }
-    ensures stays { rest register.new ≡ rest register.old }
+    ensures stays { R.rest register.new ≡ R.rest register.old }
 {
     while let Some(o) = table.take_first() {
         release(register, o);

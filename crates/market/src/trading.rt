@@ -26,13 +26,13 @@ pub(crate) fn execute_attempt<R: Register>(
 ) -> usize
     requires strip { clean strip.old ≡ true }
     requires room { Room board.old tape.old }
-    ensures state { state_of board.new (rows register.new) tape.new ≡ executed (attempt_of number (book_of board.old.table)) (state_of board.old (rows register.old) tape.old) }
+    ensures state { state_of board.new (R.rows register.new) tape.new ≡ executed (attempt_of number (book_of board.old.table)) (state_of board.old (R.rows register.old) tape.old) }
     ensures trades { result ≡ length (attempt_of number (book_of board.old.table)) }
     ensures used { board.new.used ≡ board.old.used + result }
     ensures fewer { needed board.new ≤ needed board.old }
     ensures strip { strip.new ≡ strip.old }
     ensures rest { Grown board.old.used tape.old board.new.used tape.new }
-    ensures stays { rest register.new ≡ rest register.old }
+    ensures stays { R.rest register.new ≡ R.rest register.old }
 {
     let from = board.used;
     let made = attempt::attempt(&mut board.table, strip, tape, from, number);
@@ -51,7 +51,7 @@ pub(crate) fn execute_rounds<R: Register>(
 ) -> (usize, u64)
     requires strip { clean strip.old ≡ true }
     requires room { Room board.old tape.old }
-    ensures state { state_of board.new (rows register.new) tape.new ≡ executed (all_rounds issue (book_of board.old.table)).trades (state_of board.old (rows register.old) tape.old) }
+    ensures state { state_of board.new (R.rows register.new) tape.new ≡ executed (all_rounds issue (book_of board.old.table)).trades (state_of board.old (R.rows register.old) tape.old) }
     ensures trades { result.0 ≡ length (all_rounds issue (book_of board.old.table)).trades }
     ensures rounds { result.1 ≡ (all_rounds issue (book_of board.old.table)).count }
     ensures each { result.1 ≤ result.0 }
@@ -59,7 +59,7 @@ pub(crate) fn execute_rounds<R: Register>(
     ensures fewer { needed board.new ≤ needed board.old }
     ensures strip { strip.new ≡ strip.old }
     ensures rest { Grown board.old.used tape.old board.new.used tape.new }
-    ensures stays { rest register.new ≡ rest register.old }
+    ensures stays { R.rest register.new ≡ R.rest register.old }
 {
     let from = board.used;
     let (made, count) = rounds::rounds(&mut board.table, strip, tape, from, issue);
@@ -75,12 +75,12 @@ pub(crate) fn execute_opening<R: Register>(
     tape: &mut [Trade],
 ) -> usize
     requires room { Room board.old tape.old }
-    ensures state { state_of board.new (rows register.new) tape.new ≡ executed (all_trades 1 board.old.closes (book_of board.old.table)) (state_of board.old (rows register.old) tape.old) }
+    ensures state { state_of board.new (R.rows register.new) tape.new ≡ executed (all_trades 1 board.old.closes (book_of board.old.table)) (state_of board.old (R.rows register.old) tape.old) }
     ensures trades { result ≡ length (all_trades 1 board.old.closes (book_of board.old.table)) }
     ensures used { board.new.used ≡ board.old.used + result }
     ensures fewer { needed board.new ≤ needed board.old }
     ensures rest { Grown board.old.used tape.old board.new.used tape.new }
-    ensures stays { rest register.new ≡ rest register.old }
+    ensures stays { R.rest register.new ≡ R.rest register.old }
 {
     let from = board.used;
     let made = trades::open_all(&mut board.table, tape, from, &board.closes);

@@ -12,7 +12,7 @@ loop-call-preserved g c =
     let s = state_of c.loop-call.self.board (rows c.loop-call.self.register.now) c.loop-call.tape in
     let t = state_of c.make-outcome.new.self.board (rows c.make-outcome.new.self.register.now) c.make-outcome.new.tape in
     let l = same_lent c.loop-call.tape c.args.tape.now c.loop-call.strip c.args.strip.now c.loop-call.auto.tape i.1 in (
-      run_more (vec_items c.loop-call.outcomes) (vec_items c.push-reserved.new.self) c.make-outcome.result _ _ s t c.args.calls.now c.loop-call.call-index (omega arith) c.push-reserved.ensures.items p.does.does l ∙ i.0,
+      run_more (vec_items c.loop-call.outcomes) (vec_items c.push_reserved.new.self) c.make-outcome.result _ _ s t c.args.calls.now c.loop-call.call-index (omega arith) c.push_reserved.ensures.items p.does.does l ∙ i.0,
       p.does.same ∙ i.1,
       search rules,
       search rules,

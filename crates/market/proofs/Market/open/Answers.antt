@@ -8,12 +8,12 @@ use Rattle.market.proofs.Market.open.Goals as goal
 pub returns : goal.returns
 returns g c =
     let s = state_of c.args.self.now.board (g.R.Register.rows c.args.self.now.register.now) c.args.tape.now in
-    let k = c.in-ok-check-open.ensures in
-    let p = c.execute-opening-made.ensures in
-    let q = c.rounds-in-all.ensures in
+    let k = c.in_ok-check_open.ensures in
+    let p = c.execute_opening-made.ensures in
+    let q = c.rounds_in_all.ensures in
     record {
       does = record {
-        does = open_does (lent_by c.args.tape.now c.args.strip.now) s _ c.execute-opening-made.result _ k.refusal p.state p.trades q.does;
+        does = open_does (lent_by c.args.tape.now c.args.strip.now) s _ c.execute_opening-made.result _ k.refusal p.state p.trades q.does;
         same = q.strip;
         rest = grown_more _ _ _ _ _ _ _ p.rest refl q.rest;
       };

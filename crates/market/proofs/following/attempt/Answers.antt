@@ -5,11 +5,11 @@ use Rattle.market.proofs.following.attempt.Goals as goal
 
 pub returns-in-Continuous : goal.returns-in-Continuous
 returns-in-Continuous g c =
-    let p = c.execute-attempt-made.ensures in
-    let e = c.end-if-now.ensures in
+    let p = c.execute_attempt-made.ensures in
+    let e = c.end_if_now.ensures in
     let q = c.by_rounds.ensures in
     record {
-      does = in_continuous _ _ _ _ _ _ _ _ _ c.in-Continuous.is p.state p.trades (e.state c.execute-attempt-made.new.tape) q.does;
+      does = in_continuous _ _ _ _ _ _ _ _ _ c.in-Continuous.is p.state p.trades (e.state c.execute_attempt-made.new.tape) q.does;
       strip = q.strip ∙ p.strip;
       rest = grown_more _ _ _ _ _ _ _ p.rest e.used q.rest;
       stays = q.stays ∙ (e.stays ∙ p.stays);

@@ -13,7 +13,7 @@ loop-issue-init g c =
 pub loop-issue-preserved : goal.loop-issue-preserved
 loop-issue-preserved g c =
     let i = c.loop-issue.invariant in
-    let p = c.by-rounds-outcome.ensures in
+    let p = c.by_rounds-outcome.ensures in
     let s = state_of c.loop-issue.board (g.R.Register.rows c.loop-issue.register) c.loop-issue.tape in (
       rounds_turn c.loop-issue.issue c.loop-issue.outcome s _ (omega arith) p.does ∙ i.0,
       search rules,
