@@ -1,5 +1,5 @@
 -- The limit of an entry whose own price is within its bounds is within them: a market limit is the price of a live order.
-use Rattle.std.proofs.Common.{◌≡◌, ℕ, Bool, true, false, not, ◌&&◌, is_some, Some, None, filter, Option, sym, refl, ap, ◌∙◌, arith}
+use Rattle.std.proofs.Common.{◌≡◌, ℕ, true, false, not, ◌&&◌, is_some, Some, None, filter, Option, sym, arith}
 use Rattle.std.proofs.lemmas.Bool.{or_parts, not-true}
 use Rattle.orders.specs.declared.order.Order.{Order}
 use Rattle.orders.specs.declared.order.Side.{Side}

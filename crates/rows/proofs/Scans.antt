@@ -1,5 +1,5 @@
 -- Steps of the loops that look through rows. Assumes nothing.
-use Rattle.std.proofs.Common.{◌≡◌, ℕ, zero, suc, ◌+◌, ◌-◌, ◌<◌, ◌≤◌, Bool, true, false, ◌&&◌, leb, ◌⊎◌, List, [], ◌∷◌, length, get_or, take, drop, set, is_some, is_ok, Some, None, Ok, Err, Option, unwrap_or, sym, refl, ap, ◌∙◌, ⊎_elim, arith}
+use Rattle.std.proofs.Common.{◌≡◌, ℕ, zero, suc, ◌+◌, ◌<◌, ◌≤◌, Bool, true, false, ◌&&◌, leb, ◌⊎◌, List, [], ◌∷◌, length, get_or, take, drop, set, is_some, is_ok, Some, None, Ok, Err, Option, unwrap_or, sym, refl, ap, ◌∙◌, ⊎_elim, arith}
 use Rattle.std.specs.List.{list_all}
 use Rattle.std.proofs.lemmas.Bool.{and_left, cond-true, cond-false, le-leb, lt-leb, eq-eqb, cases_lt, cases_Bool, and_parts, and_from, true≢false, leb-true, and_right}
 use Rattle.std.proofs.lemmas.List.{at_drop_more, at_drop_all, length-drop, drop_more, take_all}

@@ -1,5 +1,5 @@
 -- Each call keeps what the market promises. Assumes nothing.
-use Rattle.std.proofs.Common.{◌≡◌, ℕ, ◌+◌, ◌≤◌, min, Bool, true, false, cond, not, ◌&&◌, ◌||◌, ltb, leb, ◌⊎◌, List, [], ◌∷◌, ◌++◌, length, is_some, Some, None, Ok, Err, Option, sym, refl, ap, ◌∙◌, subst, inl, inr, arith}
+use Rattle.std.proofs.Common.{◌≡◌, ℕ, ◌+◌, ◌≤◌, min, Bool, true, false, not, ◌&&◌, ltb, leb, ◌⊎◌, List, [], ◌∷◌, ◌++◌, length, is_some, Some, None, Ok, Err, Option, sym, refl, ap, ◌∙◌, subst, inl, inr, arith}
 use Rattle.std.proofs.lemmas.Bool.{not-false, or_parts}
 use Rattle.std.proofs.ByRecursion.{All-weaker, All-append}
 use Rattle.std.specs.List.{AllByRecursion as EveryOne}
@@ -15,7 +15,7 @@ use Rattle.orders.specs.declared.order.Price.TheVariants.{Limit}
 use Rattle.orders.specs.declared.order.Call.{Call}
 use Rattle.orders.specs.declared.order.Call.TheVariants.{Enter, Amend, Cancel, Suspend, Resume, Deposit, Withdraw, Reference, Open, Close}
 use Rattle.orders.specs.Orders.{never_given, stamps_out}
-use Rattle.orders.specs.Book.{Book, find, best_opposite, amended, suspended, resumed, after}
+use Rattle.orders.specs.Book.{Book, find, best_opposite, amended, resumed, after}
 use Rattle.orders.specs.Laws.{Sound, AllFair}
 use Rattle.orders.proofs.Trades.{count_trades}
 use Rattle.matching.specs.Laws.{dropped}
@@ -26,16 +26,16 @@ use Rattle.rules.specs.declared.outcome.Outcome.{Outcome}
 use Rattle.rules.specs.declared.fault.MarketFault.{MarketFault}
 use Rattle.rules.specs.declared.fault.MarketFault.TheVariants.{WrongPhase, NeverGiven, OrderEnded, NothingToChange, NoneOpposite, BookFull, StampsOut, InRegister}
 use Rattle.rules.specs.Ledger.{Ledger, noted, listed, restamps}
-use Rattle.rules.specs.Refusals.{Lent, is_pre_open, is_closed, is_now, is_market, is_sell, is_open, too_few, works, short_for, tape_short, wrong_to_enter, live_refusal, refusal}
+use Rattle.rules.specs.Refusals.{Lent, is_pre_open, is_closed, is_now, is_market, is_sell, is_open, too_few, works, short_for, wrong_to_enter, live_refusal, refusal}
 use Rattle.rules.specs.Market.{State, Answer, number_for, accepted, followed, decided, step, issue_of}
 use Rattle.rules.specs.Shares.{shares_in, bought, sold}
-use Rattle.runs.specs.Record.{now_order, ends_after, before_trades, trades_in, traded_ledger, after_call}
+use Rattle.runs.specs.Record.{now_order, before_trades, trades_in, after_call}
 use Rattle.runs.specs.Promise.{brought, taken}
 use Rattle.runs.proofs.Pairs.{none}
-use Rattle.runs.proofs.Lists.{Keeps, names_changed}
+use Rattle.runs.proofs.Lists.{names_changed}
 use Rattle.runs.proofs.Steady.{Stands, SoFar, begin, append_nil}
 use Rattle.runs.proofs.Follow.{Over, Names, finish, tried_on, opening_on}
-use Rattle.runs.proofs.Taken.{one_pass, lent_passes, terms_pass, both_pass, room_left, Taken, enter_taken, amend_keeps, amend_taken, suspend_keeps, suspend_taken, resume_keeps, resume_taken, cancel_taken, deposit_taken, withdraw_taken, reference_taken, open_taken, close_taken}
+use Rattle.runs.proofs.Taken.{one_pass, lent_passes, terms_pass, both_pass, room_left, Taken, enter_taken, amend_keeps, amend_taken, suspend_taken, resume_keeps, resume_taken, cancel_taken, deposit_taken, withdraw_taken, reference_taken, open_taken, close_taken}
 
 -- One call: the trades that it adds to the tape, as many as its answer says. They are fair on the ledger as the call leaves it before trading, and make
 -- of it the ledger that it leaves. Shares change by deposits, withdrawals and trades alone; and the state that it leaves stands.

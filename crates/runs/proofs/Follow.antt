@@ -12,10 +12,9 @@ use Rattle.orders.specs.declared.order.Term.{Term}
 use Rattle.orders.specs.declared.order.Term.TheVariants.{Plain, All, Least}
 use Rattle.orders.specs.declared.order.Life.{Life}
 use Rattle.orders.specs.declared.order.Life.TheVariants.{Day, Now}
-use Rattle.orders.specs.Search.{In}
 use Rattle.orders.specs.Book.{Book, find, loosened, after}
 use Rattle.orders.specs.Laws.{Sound, AllFair}
-use Rattle.orders.specs.Lists.{none_some, cond_either, all_in, in_all}
+use Rattle.orders.specs.Lists.{none_some, cond_either, in_all}
 use Rattle.orders.proofs.Changes.{found_all, found_in, found_number, found_only, distinct_ascending}
 use Rattle.matching.specs.Attempt.{attempt_of, attempt}
 use Rattle.matching.specs.Rounds.{Rounds, all_rounds}
@@ -31,7 +30,7 @@ use Rattle.rules.specs.declared.outcome.Outcome.{Outcome}
 use Rattle.rules.specs.Refusals.{is_open}
 use Rattle.rules.specs.Market.{State, Answer, executed, if_now, by_rounds, finished, tried, rounds_in, opened}
 use Rattle.runs.specs.Record.{only_now}
-use Rattle.runs.proofs.Steady.{Steady, Stands, unsettled, SoFar, begin, all_after, go_on, go_on_in, rounds_on, ended, ended_on}
+use Rattle.runs.proofs.Steady.{Steady, unsettled, SoFar, begin, all_after, go_on, go_on_in, rounds_on, ended, ended_on}
 
 -- a call from the state s is over: done, under the number n
 pub record Over (extra : ℕ → ℕ → ℕ) (g : Option ℕ) (n : ℕ) (s : State) (y : Answer × State) : Type 0 where

@@ -1,5 +1,5 @@
 -- Books with an order more, and with an order changed in its place. Assumes nothing.
-use Rattle.std.proofs.Common.{◌≡◌, ℕ, ◌+◌, ◌<◌, ◌≤◌, Bool, true, false, cond, not, eqb, ◌⊎◌, List, [], ◌∷◌, ◌++◌, is_some, Some, None, Option, sym, refl, ap, ◌∙◌, subst, inl, inr, arith}
+use Rattle.std.proofs.Common.{◌≡◌, ℕ, ◌+◌, ◌<◌, Bool, true, false, cond, eqb, ◌⊎◌, [], ◌∷◌, ◌++◌, Some, sym, refl, ap, ◌∙◌, subst, inl, inr, arith}
 use Rattle.std.proofs.lemmas.Bool.{cond_both, eqb-true, ne_eqb}
 use Rattle.std.proofs.lemmas.Bool.Decides.{nat_tests}
 use Rattle.std.proofs.lemmas.List.Elements.{filter-append}
@@ -12,7 +12,7 @@ use Rattle.orders.specs.Laws.{Ascending, Distinct, Sound}
 use Rattle.orders.specs.Lists.{none_some, in_all}
 use Rattle.orders.proofs.Changes.{changed_missing, found_all, found_only, distinct_ascending}
 use Rattle.matching.specs.Laws.{of_issue}
-use Rattle.rules.specs.Shares.{sells_of, backing}
+use Rattle.rules.specs.Shares.{backing}
 use Rattle.runs.proofs.Steady.{append_nil}
 use Rattle.runs.proofs.Pairs.{behind}
 

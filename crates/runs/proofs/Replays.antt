@@ -1,5 +1,5 @@
 -- The record of a run tells its ledger, and every run keeps the promise. Assumes nothing.
-use Rattle.std.proofs.Common.{◌≡◌, ℕ, ◌+◌, ◌≤◌, min, Bool, true, false, cond, ◌⊎◌, List, [], ◌∷◌, ◌++◌, length, take, drop, is_some, Some, None, Ok, Err, Option, sym, refl, ap, ◌∙◌, subst, inl, inr, append_assoc, arith, length-append, take-append-drop, take_at, drop_at}
+use Rattle.std.proofs.Common.{◌≡◌, ℕ, ◌+◌, ◌≤◌, true, false, ◌⊎◌, List, [], ◌∷◌, ◌++◌, length, take, drop, is_some, Some, None, Ok, Err, Option, sym, refl, ap, ◌∙◌, subst, inl, inr, append_assoc, arith, length-append, take-append-drop, take_at, drop_at}
 use Rattle.std.proofs.lemmas.Bool.{cases_eq}
 use Rattle.std.proofs.lemmas.Bool.Decides.{nat_tests}
 use Rattle.register.specs.declared.holding.Row.{Row}
@@ -16,17 +16,16 @@ use Rattle.orders.specs.Laws.{Sound, AllFair}
 use Rattle.orders.specs.Lists.{none_some}
 use Rattle.orders.proofs.Changes.{found_all, found_number}
 use Rattle.orders.proofs.Trades.{sound_after}
-use Rattle.matching.specs.Laws.{is_of, traded, dropped}
+use Rattle.matching.specs.Laws.{traded, dropped}
 use Rattle.matching.proofs.Wholes.{Whole, ended_or_live, gone, whole_trades}
-use Rattle.rules.specs.declared.outcome.Phase.TheVariants.{Continuous}
 use Rattle.rules.specs.declared.outcome.Outcome.{Outcome}
 use Rattle.rules.specs.Ledger.{Ledger, blank, listed, noted}
 use Rattle.rules.specs.Refusals.{Lent}
 use Rattle.rules.specs.Market.{State, Answer, set_up, step, run}
-use Rattle.rules.specs.Shares.{held_in, shares_in, backing, bought, sold}
+use Rattle.rules.specs.Shares.{held_in, shares_in, bought, sold}
 use Rattle.runs.specs.Record.{ends_after, before_trades, trades_in, after_call, replay}
-use Rattle.runs.specs.Promise.{brought, taken, deposits, withdrawals, LeftOver, CallKept, CallsKept, calls_of, Kept, PromiseKept}
-use Rattle.runs.proofs.Drops.{find_without_other, none_dropped, dropped_ends, least_kept, untouched, never_touched}
+use Rattle.runs.specs.Promise.{deposits, withdrawals, LeftOver, CallKept, CallsKept, calls_of, Kept, PromiseKept}
+use Rattle.runs.proofs.Drops.{find_without_other, none_dropped, dropped_ends, least_kept}
 use Rattle.runs.proofs.Steady.{Stands, append_nil, sold_append, bought_append}
 use Rattle.runs.proofs.Follow.{empty_quiet}
 use Rattle.runs.proofs.Calls.{CallKeeps, calls_keep}

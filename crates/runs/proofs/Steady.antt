@@ -1,16 +1,15 @@
 -- How a call's trades and endings change a state. Assumes nothing.
-use Rattle.std.proofs.Common.{◌≡◌, ℕ, ◌+◌, ◌<◌, ◌≤◌, Bool, true, false, cond, not, eqb, ◌⊎◌, List, [], ◌∷◌, ◌++◌, length, is_some, Some, None, Option, sym, refl, ap, ◌∙◌, subst, inl, inr, append_assoc, arith, length-append}
-use Rattle.std.proofs.lemmas.Bool.{cases_Bool, cases_eq, eqb-true, ne_eqb, cond-true, cond-false}
+use Rattle.std.proofs.Common.{◌≡◌, ℕ, ◌+◌, ◌≤◌, Bool, true, false, cond, not, eqb, List, [], ◌∷◌, ◌++◌, length, is_some, Some, None, Option, sym, refl, ap, ◌∙◌, subst, inl, inr, append_assoc, arith, length-append}
+use Rattle.std.proofs.lemmas.Bool.{cases_eq, eqb-true}
 use Rattle.std.proofs.lemmas.Bool.Decides.{nat_tests}
 use Rattle.std.proofs.ByRecursion.{All-weaker, all_kept_by}
 use Rattle.std.specs.List.{AllByRecursion as EveryOne}
-use Rattle.register.specs.declared.holding.Row.{Row}
 use Rattle.register.specs.Rules.{lawful, balance_of}
 use Rattle.orders.specs.declared.order.Order.{Order}
 use Rattle.orders.specs.declared.order.Trade.{Trade}
 use Rattle.orders.specs.Book.{Book, number_of, find, lowered, without, after_trade, reduced, after}
 use Rattle.orders.specs.Laws.{Distinct, Sound, AllFair}
-use Rattle.orders.proofs.Changes.{Missing, without_missing, found_all, distinct_ascending}
+use Rattle.orders.proofs.Changes.{without_missing, found_all, distinct_ascending}
 use Rattle.orders.proofs.Trades.{all_reduced, sound_after, count_trades, after_append, fair_append}
 use Rattle.matching.specs.Rounds.{all_rounds}
 use Rattle.matching.specs.Laws.{of_issue, Quiet, dropped}
@@ -18,10 +17,10 @@ use Rattle.matching.proofs.Wholes.{Whole}
 use Rattle.matching.proofs.Issues.{quiet_local, issue_after}
 use Rattle.matching.proofs.Proved.{rounds_settle, rounds_whole, sound_dropped, few_dropped}
 use Rattle.rules.specs.declared.outcome.Phase.TheVariants.{Continuous}
-use Rattle.rules.specs.Ledger.{Ledger, with_live}
+use Rattle.rules.specs.Ledger.{with_live}
 use Rattle.rules.specs.Refusals.{is_open}
-use Rattle.rules.specs.Market.{State, all_settled, executed, ended_rows, if_now}
-use Rattle.rules.specs.Shares.{held_in, shares_in, sells_of, backing, bought, sold, Covered}
+use Rattle.rules.specs.Market.{State, executed, ended_rows}
+use Rattle.rules.specs.Shares.{shares_in, sells_of, backing, bought, sold, Covered}
 use Rattle.rules.proofs.Registers.{settled_kept}
 use Rattle.rules.proofs.Settlements.{trades_settle}
 use Rattle.runs.proofs.Pairs.{behind, ended_moves}

@@ -1,43 +1,35 @@
 -- The state that each accepted call leaves before its trades. Assumes nothing.
-use Rattle.std.proofs.Common.{◌≡◌, ℕ, ◌+◌, ◌-◌, ◌<◌, ◌≤◌, min, Bool, true, false, cond, not, ◌&&◌, ◌||◌, eqb, ltb, leb, ◌⊎◌, List, [], ◌∷◌, ◌++◌, length, is_some, Some, None, filter, Option, sym, refl, ap, ◌∙◌, subst, inl, inr, arith, length-append}
-use Rattle.std.proofs.lemmas.Bool.{ltb-false, leb-false, not-false, not-true, or_parts}
-use Rattle.std.proofs.ByRecursion.{All-weaker, All-append, all_kept_by}
+use Rattle.std.proofs.Common.{◌≡◌, ℕ, ◌+◌, ◌-◌, ◌<◌, ◌≤◌, min, Bool, true, false, cond, not, ◌&&◌, ◌||◌, ltb, leb, ◌⊎◌, List, [], ◌∷◌, ◌++◌, length, is_some, Some, None, filter, Option, sym, refl, ap, ◌∙◌, inl, inr, arith, length-append}
+use Rattle.std.proofs.lemmas.Bool.{ltb-false, leb-false, not-true, or_parts}
+use Rattle.std.proofs.ByRecursion.{All-weaker, All-append}
 use Rattle.std.specs.List.{AllByRecursion as EveryOne}
 use Rattle.register.specs.declared.holding.Row.{Row}
 use Rattle.register.specs.Rules.{lawful, balance_of}
 use Rattle.orders.specs.declared.order.Order.{Order}
-use Rattle.orders.specs.declared.order.Trade.{Trade}
 use Rattle.orders.specs.declared.order.Entry.{Entry}
 use Rattle.orders.specs.declared.order.Side.{Side}
 use Rattle.orders.specs.declared.order.Term.{Term}
 use Rattle.orders.specs.declared.order.Price.{Price}
 use Rattle.orders.specs.declared.order.Price.TheVariants.{Limit, Market}
-use Rattle.orders.specs.Rank.{first_by, ahead}
 use Rattle.orders.specs.Orders.{Valid, breaks_price, breaks_quantity, breaks_least, working_opposite}
 use Rattle.orders.specs.Book.{Book, find, changed, amended, suspended, resumed, best_opposite}
-use Rattle.orders.specs.Laws.{Sound}
 use Rattle.orders.specs.Lists.{all_in, some_none, cond_either, in_kept}
 use Rattle.orders.specs.Firsts.{first_tops}
 use Rattle.orders.specs.Ranks.{ahead_ranks}
 use Rattle.orders.proofs.Changes.{found_all, distinct_ascending, length_changed, length_without}
 use Rattle.orders.proofs.Validity.{bounds_valid, bounds_from, valid_bounds}
-use Rattle.matching.specs.Laws.{Quiet}
 use Rattle.matching.proofs.Issues.{quiet_local}
-use Rattle.rules.specs.declared.outcome.Phase.TheVariants.{Continuous}
 use Rattle.rules.specs.declared.fault.MarketFault.{MarketFault}
 use Rattle.rules.specs.declared.fault.MarketFault.TheVariants.{WrongPhase, UncleanStrip, ShortTape, BadPrice, BadQuantity, BadLeast}
 use Rattle.rules.specs.Ledger.{Ledger, limit_for, listed, restamps}
-use Rattle.rules.specs.Refusals.{Lent, lent_refusal, terms_refusal, first_refusal, or_else, is_open, is_sell, is_market, too_few, short_for, limit_breaks, tape_short}
+use Rattle.rules.specs.Refusals.{Lent, lent_refusal, terms_refusal, or_else, is_open, is_sell, is_market, too_few, short_for, limit_breaks, tape_short}
 use Rattle.rules.specs.Market.{State, accepted}
-use Rattle.rules.specs.Shares.{held_in, shares_in, backing, Covered}
-use Rattle.orders.specs.declared.order.Call.{Call}
+use Rattle.rules.specs.Shares.{held_in, shares_in}
 use Rattle.orders.specs.declared.order.Call.TheVariants.{Enter, Amend, Cancel, Suspend, Resume, Deposit, Withdraw, Reference, Open, Close}
 use Rattle.orders.specs.Orders.{stamps_out}
-use Rattle.orders.specs.Search.{In}
 use Rattle.runs.proofs.Pairs.{Moved, stays, none, at_pair, behind, covered_moves, recovered_moves, all_ended_moves, deposit_moves, withdraw_moves}
 use Rattle.runs.proofs.Follow.{empty_quiet}
 use Rattle.register.specs.Rules.{limit, total_of}
-use Rattle.rules.specs.Refusals.{free_in}
 use Rattle.runs.proofs.Lists.{backing_append, sound_append, issue_append, Keeps, only_one, all_changed, issue_changed, one_changed, sound_changed, backing_changed}
 use Rattle.runs.proofs.Steady.{Steady, Stands, unsettled, backing_without, steady_ended}
 

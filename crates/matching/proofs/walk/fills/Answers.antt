@@ -1,4 +1,4 @@
-use Rattle.std.proofs.Common.{◌+◌, ◌-◌, drop, sym, ap, ◌∙◌, arith}
+use Rattle.std.proofs.Common.{◌+◌, drop, sym, ap, ◌∙◌, arith}
 use Rattle.matching.specs.Walk.{faces, walk, amount}
 use Rattle.matching.specs.Listing.{facing}
 use Rattle.matching.proofs.Walking.{amount_turn, fill_end}
