@@ -1,5 +1,5 @@
 -- Tapes, and the states that they belong to. Assumes nothing.
-use Rattle.std.proofs.Common.{◌≡◌, ℕ, ◌+◌, ◌-◌, ◌≤◌, min, List, ◌++◌, length, take, drop, sym, refl, ap, ◌∙◌, arith}
+use Rattle.std.proofs.Common.{◌≡◌, ℕ, ◌+◌, ◌-◌, ◌≤◌, min, List, ◌++◌, length, take, drop, sym, ap, ◌∙◌, arith}
 use Rattle.register.specs.declared.holding.Row.{Row}
 use Rattle.orders.specs.declared.order.Trade.{Trade}
 use Rattle.orders.specs.Book.{Book, after}

@@ -7,7 +7,7 @@ use register::contract::Register;
 pub mod calls;
 mod following;
 pub mod questions;
-pub mod runs;
+pub mod sequence;
 pub mod session;
 mod settling;
 pub mod setup;

@@ -1,4 +1,4 @@
-use Rattle.std.proofs.Common.{◌≡◌, vec_items, sym, refl, ap, ◌∙◌, arith, rules}
+use Rattle.std.proofs.Common.{vec_items, sym, refl, ◌∙◌, arith, rules}
 use Rattle.board.specs.Boards.{state_of, lent_by}
 use Rattle.market.proofs.Turns.{same_lent, run_more, run_all}
 use Rattle.market.proofs.Tapes.{grown_more}
