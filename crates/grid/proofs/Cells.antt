@@ -18,10 +18,10 @@ length_from : (k : ℕ) (hs : List Holding) → length (rows_from k hs) ≡ leng
 length_from k [] = refl
 length_from k (h ∷ hs) = ap suc (length_from (k + 1) hs)
 
-getD_from : (k : ℕ) (hs : List Holding) (j : ℕ) → j < length hs → get_or (rows_from k hs) j no_row ≡ cell_row (k + j) (get_or hs j no_shares)
-getD_from k [] j l = absurd (omega arith)
-getD_from k (h ∷ hs) zero l = ap (λ n. cell_row n h) (omega arith)
-getD_from k (h ∷ hs) (suc j) l = getD_from (k + 1) hs j (omega arith) ∙ ap (λ n. cell_row n (get_or hs j no_shares)) (omega arith)
+get_or_from : (k : ℕ) (hs : List Holding) (j : ℕ) → j < length hs → get_or (rows_from k hs) j no_row ≡ cell_row (k + j) (get_or hs j no_shares)
+get_or_from k [] j l = absurd (omega arith)
+get_or_from k (h ∷ hs) zero l = ap (λ n. cell_row n h) (omega arith)
+get_or_from k (h ∷ hs) (suc j) l = get_or_from (k + 1) hs j (omega arith) ∙ ap (λ n. cell_row n (get_or hs j no_shares)) (omega arith)
 
 set_from : (k : ℕ) (hs : List Holding) (j : ℕ) (h : Holding) → rows_from k (set hs j h) ≡ set (rows_from k hs) j (cell_row (k + j) h)
 set_from k [] j h = refl
@@ -54,9 +54,9 @@ pub grid_length : (hs : List Holding) → length (grid_rows hs) ≡ length hs
 unfolding grid_rows
 grid_length hs = length_from 0 hs
 
-pub grid_getD : (hs : List Holding) (j : ℕ) → j < length hs → get_or (grid_rows hs) j no_row ≡ cell_row j (get_or hs j no_shares)
+pub grid_get_or : (hs : List Holding) (j : ℕ) → j < length hs → get_or (grid_rows hs) j no_row ≡ cell_row j (get_or hs j no_shares)
 unfolding grid_rows
-grid_getD hs j l = getD_from 0 hs j l ∙ ap (λ n. cell_row n (get_or hs j no_shares)) (omega arith)
+grid_get_or hs j l = get_or_from 0 hs j l ∙ ap (λ n. cell_row n (get_or hs j no_shares)) (omega arith)
 
 pub grid_set : (hs : List Holding) (j : ℕ) (h : Holding) → grid_rows (set hs j h) ≡ set (grid_rows hs) j (cell_row j h)
 unfolding grid_rows
@@ -70,7 +70,7 @@ grid_lawful hs e f = and_from _ _ (and_from _ _ (ascending_from 0 hs) (ranged_fr
 pub grid_absent : (hs : List Holding) (a i : ℕ) → length hs ≡ 1024 → ((k : ℕ) → k < 1024 → k / 16 + 1 ≡ a → k % 16 + 1 ≡ i → ⊥) → balance_of a i (grid_rows hs) ≡ None
 grid_absent hs a i e f = balance_none a i (grid_rows hs) (λ k l.
     let m : k < length hs = omega (arith, grid_length hs) in
-    let at = grid_getD hs k m in
+    let at = grid_get_or hs k m in
     ⊎_elim
     (λ (t : names a i (get_or (grid_rows hs) k no_row) ≡ true).
     let n = named a i (cell_row k (get_or hs k no_shares)) (ap (names a i) (sym at) ∙ t) in
@@ -84,14 +84,14 @@ grid_placed hs a i e la ua li ui =
     let within : k < length hs = omega arith in
     record {
       within = omega (arith, grid_length hs);
-      here = ap (names a i) (grid_getD hs k within) ∙ and_from _ _ (eq-eqb (k / 16 + 1) a (omega (arith, div-mul-add (a - 1) 16 (i - 1) (omega arith)))) (eq-eqb (k % 16 + 1) i (omega (arith, mod-mul-add (a - 1) 16 (i - 1) (omega arith))));
+      here = ap (names a i) (grid_get_or hs k within) ∙ and_from _ _ (eq-eqb (k / 16 + 1) a (omega (arith, div-mul-add (a - 1) 16 (i - 1) (omega arith)))) (eq-eqb (k % 16 + 1) i (omega (arith, mod-mul-add (a - 1) 16 (i - 1) (omega arith))));
     }
 
 pub grid_total_same : (hs : List Holding) (k : ℕ) (h : Holding) → k < length hs → total_of (k % 16 + 1) (grid_rows (set hs k h)) + ((get_or hs k no_shares).free + (get_or hs k no_shares).held) ≡ total_of (k % 16 + 1) (grid_rows hs) + (h.free + h.held)
 grid_total_same hs k h l =
     let i : ℕ = k % 16 + 1 in
     let u = sum_by-set (shares i) (grid_rows hs) k (cell_row k h) no_row (omega (arith, grid_length hs)) in
-    let old = ap (shares i) (grid_getD hs k l) ∙ shares_named i (cell_row k (get_or hs k no_shares)) refl in
+    let old = ap (shares i) (grid_get_or hs k l) ∙ shares_named i (cell_row k (get_or hs k no_shares)) refl in
     let new = shares_named i (cell_row k h) refl in
     let e = ap (total_of i) (grid_set hs k h) in
     omega arith
@@ -99,7 +99,7 @@ grid_total_same hs k h l =
 pub grid_total_other : (hs : List Holding) (k : ℕ) (h : Holding) (i : ℕ) → k < length hs → (k % 16 ≡ i → ⊥) → total_of (i + 1) (grid_rows (set hs k h)) ≡ total_of (i + 1) (grid_rows hs)
 grid_total_other hs k h i l n =
     let u = sum_by-set (shares (i + 1)) (grid_rows hs) k (cell_row k h) no_row (omega (arith, grid_length hs)) in
-    let old = ap (shares (i + 1)) (grid_getD hs k l) ∙ shares_other (i + 1) (cell_row k (get_or hs k no_shares)) (λ e. n (omega arith)) in
+    let old = ap (shares (i + 1)) (grid_get_or hs k l) ∙ shares_other (i + 1) (cell_row k (get_or hs k no_shares)) (λ e. n (omega arith)) in
     let new = shares_other (i + 1) (cell_row k h) (λ e. n (omega arith)) in
     let e = ap (total_of (i + 1)) (grid_set hs k h) in
     omega arith
@@ -108,7 +108,7 @@ grid_total_other hs k h i l n =
 pub grid_cell_le : (hs : List Holding) (k : ℕ) → k < length hs → (get_or hs k no_shares).free + (get_or hs k no_shares).held ≤ total_of (k % 16 + 1) (grid_rows hs)
 grid_cell_le hs k l =
     let i : ℕ = k % 16 + 1 in
-    let s = ap (shares i) (grid_getD hs k l) ∙ shares_named i (cell_row k (get_or hs k no_shares)) refl in
+    let s = ap (shares i) (grid_get_or hs k l) ∙ shares_named i (cell_row k (get_or hs k no_shares)) refl in
     let m = get_or-le-sum_by (shares i) (grid_rows hs) k no_row (omega (arith, grid_length hs)) in
     omega arith
 
@@ -145,7 +145,7 @@ new_is hs e l a i = ⊎_elim
     let m : k < length hs = omega arith in
     let r : get_or hs k no_shares ≡ no_shares = ap (λ xs. get_or xs k no_shares) e ∙ get_or-replicate 1024 k no_shares no_shares (omega arith) in
     balance_at a i (grid_rows hs) k (grid_ascending hs) p.within p.here
-    ∙ ap (λ (w : Row). Some (w.free, w.held)) (grid_getD hs k m ∙ ap (cell_row k) r)
+    ∙ ap (λ (w : Row). Some (w.free, w.held)) (grid_get_or hs k m ∙ ap (cell_row k) r)
     ∙ sym (cond-true _ _ _ t))
     (λ (t : ((leb 1 a && leb a 64) && (leb 1 i && leb i 16)) ≡ false).
     grid_absent hs a i l (λ k m ea ei.
@@ -184,14 +184,14 @@ pub store_room : (hs : List Holding) (ts : List ℕ) (k n : ℕ) → length hs �
 store_room hs ts k n wide kept law within fits =
     let m : k < length hs = omega (arith, grid_length hs) in
     let fits' : total_of (k % 16 + 1) (grid_rows hs) + n ≤ limit + ((get_or hs k no_shares).free + (get_or hs k no_shares).held) =
-    subst (λ (r : Row). total_of r.issue (grid_rows hs) + n ≤ limit + (r.free + r.held)) (grid_getD hs k m) fits in
+    subst (λ (r : Row). total_of r.issue (grid_rows hs) + n ≤ limit + (r.free + r.held)) (grid_get_or hs k m) fits in
     let e = kept (k % 16) (omega arith) in
     let c = total_le (k % 16 + 1) (grid_rows hs) law in
     let l = grid_cell_le hs k m in
     (omega arith, omega arith, omega arith, omega arith)
 
 pub grid_set_row : (hs : List Holding) (k f h : ℕ) → k < length hs → grid_rows (set hs k (record { free = f; held = h })) ≡ set (grid_rows hs) k (figured (get_or (grid_rows hs) k no_row) f h)
-grid_set_row hs k f h l = grid_set hs k _ ∙ ap (λ r. set (grid_rows hs) k (figured r f h)) (sym (grid_getD hs k l))
+grid_set_row hs k f h l = grid_set hs k _ ∙ ap (λ r. set (grid_rows hs) k (figured r f h)) (sym (grid_get_or hs k l))
 
 pub new_lawful : lawful (grid_rows (replicate 1024 no_shares)) ≡ true
 new_lawful = grid_lawful (replicate 1024 no_shares) (length-replicate 1024 no_shares) (λ i l. omega (arith, new_total (i + 1) 1024))

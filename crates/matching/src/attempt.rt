@@ -4,7 +4,7 @@ ghost use Rattle.orders.specs.Book.{find, after};
 ghost use Rattle.orders.specs.Strip.{clean};
 ghost use Rattle.book.specs.Table.{book_of};
 ghost use Rattle.orders.specs.Tape.{recorded};
-ghost use Rattle.matching.specs.Attempt.{attempt as trades-by, attempt_of};
+ghost use Rattle.matching.specs.Attempt.{attempt as trades_by, attempt_of};
 
 use crate::listed::{BLANK, ROWS};
 use crate::listing::list;
@@ -35,11 +35,11 @@ fn attempt_live(
     requires live { (find a.now.number (book_of table.old) ≡ Some a.now) × (a.now.working ≡ true) }
     requires strip { clean strip.old ≡ true }
     requires room { used + length (book_of table.old) ≤ length tape.old }
-    ensures book { book_of table.new ≡ after (trades-by a.now (book_of table.old)) (book_of table.old) }
+    ensures book { book_of table.new ≡ after (trades_by a.now (book_of table.old)) (book_of table.old) }
     ensures number { table.new.number ≡ table.old.number }
     ensures stamp { table.new.stamp ≡ table.old.stamp }
-    ensures tape { tape.new ≡ recorded used (trades-by a.now (book_of table.old)) tape.old }
-    ensures trades { result ≡ length (trades-by a.now (book_of table.old)) }
+    ensures tape { tape.new ≡ recorded used (trades_by a.now (book_of table.old)) tape.old }
+    ensures trades { result ≡ length (trades_by a.now (book_of table.old)) }
     ensures few { result + length (book_of table.new) ≤ length (book_of table.old) }
     ensures strip { strip.new ≡ strip.old }
 {

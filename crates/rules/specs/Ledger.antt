@@ -22,7 +22,7 @@ pub record Ledger : Type 0 where
   -- the records of the tape that are used
   pub used : ℕ
 
--- at set_up
+-- at set-up
 abbrev pub blank : Ledger
 blank = record { phase = PreOpen; live = []; number = 0; stamp = 0; used = 0 }
 

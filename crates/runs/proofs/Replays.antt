@@ -207,7 +207,7 @@ runs_keep extra s (lent ∷ cs) h =
       stands = rest.stands;
     }
 
--- ---- from set_up on
+-- ---- from set-up on
 set_up_stands : (rows : List Row) → lawful rows ≡ true → Stands (λ a i. held_in (balance_of a i rows)) (set_up rows)
 set_up_stands rows w =
     record {

@@ -103,18 +103,18 @@ abbrev pub calls_of : List (Lent × Call) → List Call
 calls_of [] = []
 calls_of (c ∷ cs) = c.1 ∷ calls_of cs
 
--- The whole promise: of a run of calls over a register with these rows at set_up, the answers and the state that the run comes to. `told` is the ledger
+-- The whole promise: of a run of calls over a register with these rows at set-up, the answers and the state that the run comes to. `told` is the ledger
 -- that the record of the run comes to.
 pub record Kept (rows : List Row) (calls : List (Lent × Call)) (answers : List Answer) (end : State) (told : Ledger) : Type 0 where
   -- the answers, the trades, the phase, the live orders and the balances are those of the rules
   pub by_the_rules : (answers, end) ≡ run (set_up rows) calls
   -- what the record of the run tells is what the market holds
   pub ledger_is_told : end.ledger ≡ told
-  -- free plus held, tape sales and accepted withdrawals are free plus held at set_up, tape purchases and accepted deposits; a pair not open counts as 0
+  -- free plus held, tape sales and accepted withdrawals are free plus held at set-up, tape purchases and accepted deposits; a pair not open counts as 0
   pub shares_conserved : (a i : ℕ) →
       (shares_in (balance_of a i end.rows) + sold a i end.tape) + withdrawals a i (calls_of calls) answers
       ≡ (shares_in (balance_of a i rows) + bought a i end.tape) + deposits a i (calls_of calls) answers
-  -- held shares exceed those at set_up by exactly what the pair's live sells have left
+  -- held shares exceed those at set-up by exactly what the pair's live sells have left
   pub sells_covered : (a i : ℕ) → held_in (balance_of a i end.rows) ≡ held_in (balance_of a i rows) + backing a i told.live
   -- each call of the record, with its trades
   pub calls_kept : CallsKept blank calls answers end.tape
