@@ -1,5 +1,5 @@
 -- The rows of a flat table: one for each cell, lawful where the totals are within their limit. Assumes nothing.
-use Rattle.std.proofs.Common.{◌≡◌, ℕ, zero, suc, ◌+◌, ◌-◌, ◌*◌, ◌/◌, ◌%◌, ◌<◌, ◌≤◌, true, false, ◌&&◌, eqb, leb, List, [], ◌∷◌, length, get_or, set, replicate, Some, None, sym, refl, ap, ◌∙◌, subst, ⊎_elim, arith}
+use Rattle.std.proofs.Common.{◌≡◌, ℕ, zero, suc, ◌+◌, ◌-◌, ◌*◌, ◌/◌, ◌%◌, ◌<◌, ◌≤◌, true, false, ◌&&◌, eqb, leb, List, [], ◌∷◌, length, get_or, set, replicate, Some, None, ◌⊎◌, sym, refl, ap, ◌∙◌, ⊎_elim, arith}
 use Rattle.std.specs.List.{list_all}
 use Rattle.std.proofs.lemmas.Bool.{cases_Bool, and_parts, cond-false, cond-true, and_from, or_left, or_right, lt-ltb, le-leb, eq-eqb, cases_lt, leb-true, cases_eq}
 use Rattle.register.specs.declared.holding.Row.{Row}
@@ -11,7 +11,7 @@ use Rattle.std.proofs.lemmas.List.Sums.{sum_by-cons, sum_by-set, get_or-le-sum_b
 use Rattle.std.proofs.lemmas.List.{length-replicate, get_or-replicate, get_or-set_same, get_or-set_other}
 use Rattle.grid.specs.Cells.{new_balance}
 use Rattle.register.proofs.Sets.{capped_from}
-use Rattle.register.proofs.Places.{total_le, balance_at, balance_none, named, shares_named, shares_other}
+use Rattle.register.proofs.Places.{balance_at, balance_none, named, shares_named, shares_other}
 use Rattle.std.proofs.lemmas.Nat.{div-mul-add, mod-mul-add}
 
 length_from : (k : ℕ) (hs : List Holding) → length (rows_from k hs) ≡ length hs
@@ -78,14 +78,20 @@ grid_absent hs a i e f = balance_none a i (grid_rows hs) (λ k l.
     (λ t. t)
     (cases_Bool (names a i (get_or (grid_rows hs) k no_row))))
 
-pub grid_placed : (hs : List Holding) (a i : ℕ) → length hs ≡ 1024 → 1 ≤ a → a ≤ 64 → 1 ≤ i → i ≤ 16 → Placed a i (grid_rows hs) ((a - 1) * 16 + (i - 1))
-grid_placed hs a i e la ua li ui =
-    let k : ℕ = (a - 1) * 16 + (i - 1) in
-    let within : k < length hs = omega arith in
+-- j and k are the offsets of the account and the issue
+pub grid_placed : (hs : List Holding) (a i j k : ℕ) → length hs ≡ 1024 → (j < 64) × (a ≡ j + 1) → (k < 16) × (i ≡ k + 1) → Placed a i (grid_rows hs) (j * 16 + k)
+grid_placed hs a i j k e la li =
+    let within : j * 16 + k < length hs = omega arith in
     record {
       within = omega (arith, grid_length hs);
-      here = ap (names a i) (grid_get_or hs k within) ∙ and_from _ _ (eq-eqb (k / 16 + 1) a (omega (arith, div-mul-add (a - 1) 16 (i - 1) (omega arith)))) (eq-eqb (k % 16 + 1) i (omega (arith, mod-mul-add (a - 1) 16 (i - 1) (omega arith))));
+      here = ap (names a i) (grid_get_or hs (j * 16 + k) within) ∙ and_from _ _ (eq-eqb ((j * 16 + k) / 16 + 1) a (omega (arith, div-mul-add j 16 k (omega arith)))) (eq-eqb ((j * 16 + k) % 16 + 1) i (omega (arith, mod-mul-add j 16 k (omega arith))));
     }
+
+pub grid_no_account : (hs : List Holding) (a i : ℕ) → length hs ≡ 1024 → (a ≡ 0) ⊎ (64 < a) → balance_of a i (grid_rows hs) ≡ None
+grid_no_account hs a i e out = grid_absent hs a i e (λ k l f g. ⊎_elim (λ z. omega arith) (λ z. omega arith) out)
+
+pub grid_no_issue : (hs : List Holding) (a i : ℕ) → length hs ≡ 1024 → (i ≡ 0) ⊎ (16 < i) → balance_of a i (grid_rows hs) ≡ None
+grid_no_issue hs a i e out = grid_absent hs a i e (λ k l f g. ⊎_elim (λ z. omega arith) (λ z. omega arith) out)
 
 pub grid_total_same : (hs : List Holding) (k : ℕ) (h : Holding) → k < length hs → total_of (k % 16 + 1) (grid_rows (set hs k h)) + ((get_or hs k no_shares).free + (get_or hs k no_shares).held) ≡ total_of (k % 16 + 1) (grid_rows hs) + (h.free + h.held)
 grid_total_same hs k h l =
@@ -141,7 +147,7 @@ new_is hs e l a i = ⊎_elim
     let lz : 1 ≤ i = leb-true _ _ z.0 in
     let uz : i ≤ 16 = leb-true _ _ z.1 in
     let k : ℕ = (a - 1) * 16 + (i - 1) in
-    let p = grid_placed hs a i l ly uy lz uz in
+    let p = grid_placed hs a i (a - 1) (i - 1) l (omega arith, omega arith) (omega arith, omega arith) in
     let m : k < length hs = omega arith in
     let r : get_or hs k no_shares ≡ no_shares = ap (λ xs. get_or xs k no_shares) e ∙ get_or-replicate 1024 k no_shares no_shares (omega arith) in
     balance_at a i (grid_rows hs) k (grid_ascending hs) p.within p.here
@@ -176,19 +182,6 @@ kept_after hs ts k h l long kept i m = ⊎_elim
   where
     same : (t a b x y : ℕ) → t ≡ a → b + x ≡ a + y → x ≤ a → t - x + y ≡ b
     same t a b x y e f l = omega arith
-
--- what is known where new figures are stored: o is the old sum, n the new one, t the total that is kept
-pub store_room : (hs : List Holding) (ts : List ℕ) (k n : ℕ) → length hs ≡ 1024 → ((i : ℕ) → i < 16 → get_or ts i 0 ≡ total_of (i + 1) (grid_rows hs)) → lawful (grid_rows hs) ≡ true
-    → k < length (grid_rows hs) → total_of (get_or (grid_rows hs) k no_row).issue (grid_rows hs) + n ≤ limit + ((get_or (grid_rows hs) k no_row).free + (get_or (grid_rows hs) k no_row).held)
-    → let o : ℕ = (get_or hs k no_shares).free + (get_or hs k no_shares).held in let t : ℕ = get_or ts (k % 16) 0 in (k < 1024) × (o ≤ t) × (t ≤ limit) × (t + n ≤ limit + o)
-store_room hs ts k n wide kept law within fits =
-    let m : k < length hs = omega (arith, grid_length hs) in
-    let fits' : total_of (k % 16 + 1) (grid_rows hs) + n ≤ limit + ((get_or hs k no_shares).free + (get_or hs k no_shares).held) =
-    subst (λ (r : Row). total_of r.issue (grid_rows hs) + n ≤ limit + (r.free + r.held)) (grid_get_or hs k m) fits in
-    let e = kept (k % 16) (omega arith) in
-    let c = total_le (k % 16 + 1) (grid_rows hs) law in
-    let l = grid_cell_le hs k m in
-    (omega arith, omega arith, omega arith, omega arith)
 
 pub grid_set_row : (hs : List Holding) (k f h : ℕ) → k < length hs → grid_rows (set hs k (record { free = f; held = h })) ≡ set (grid_rows hs) k (figured (get_or (grid_rows hs) k no_row) f h)
 grid_set_row hs k f h l = grid_set hs k _ ∙ ap (λ r. set (grid_rows hs) k (figured r f h)) (sym (grid_get_or hs k l))

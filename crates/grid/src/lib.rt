@@ -1,23 +1,30 @@
 // The grid: accounts 1 to 64 open in issues 1 to 16.
 #![tactic(auto)]
 
-ghost use Rattle.std.specs.Prelude.{◌≡◌, ℕ, ◌+◌, ◌<◌, true, length, slice_index};
+ghost use Rattle.std.specs.Prelude.{◌≡◌, ℕ, ◌+◌, ◌<◌, ◌⊎◌, true, length, slice_index, MatchOption};
 ghost use Rattle.grid.specs.Cells.{grid_rows, new_balance};
 ghost use Rattle.register.specs.Rules.{lawful, total_of, balance_of};
 
-use register::contract::Register;
-use register::fault::RegisterFault;
-use register::movers;
-use register::movers::Move;
+use register::holding::LAST_ISSUE;
 use register::store::Store;
 
-// The accounts and the issues of a grid.
-const ACCOUNTS: u64 = 64;
+// The accounts and the issues of a grid, and a cell for each pair of them.
+const ACCOUNTS: usize = 64;
 
-const ISSUES: u64 = 16;
+const ISSUES: usize = LAST_ISSUE as usize;
+
+const CELLS: usize = ACCOUNTS * ISSUES;
+
+// The offset of n among the numbers from 1 to count.
+fn offset(n: u64, count: usize) -> Option<usize>
+    ensures { MatchOption result ((n ≡ 0) ⊎ (count < n)) (λ k. (k < count) × (n ≡ k + 1)) }
+{
+    let k = n.checked_sub(1)? as usize;
+    (k < count).then_some(k)
+}
 
 // Free and held shares of one pair.
-#[derive(Clone, Copy)]
+#[derive(Clone, Copy, PartialEq, Eq, Debug)]
 pub struct Holding {
     pub free: u64,
     pub held: u64,
@@ -25,8 +32,8 @@ pub struct Holding {
 
 #[derive(Drop)]
 pub struct Grid {
-    cells: [Holding; 1024],
-    totals: [u64; 16],
+    cells: [Holding; CELLS],
+    totals: [u64; ISSUES],
     ghost wide: { length cells ≡ 1024 },
     ghost long: { length totals ≡ 16 },
     ghost kept: { (i : ℕ) → i < 16 → slice_index totals i ≡ total_of (i + 1) (grid_rows cells) },
@@ -40,8 +47,8 @@ impl Grid {
         ensures totals { (i : ℕ) → total_of i (grid_rows result.cells) ≡ 0 }
     {
         Grid {
-            cells: [Holding { free: 0, held: 0 }; 1024],
-            totals: [0; 16],
+            cells: [Holding { free: 0, held: 0 }; CELLS],
+            totals: [0; ISSUES],
         }
     }
 }
@@ -56,66 +63,24 @@ impl Store for Grid {
     ghost rest = { λ _. tt };
 
     fn find(&self, account: u64, issue: u64) -> Option<usize> {
-        if account < 1 || account > ACCOUNTS || issue < 1 || issue > ISSUES {
-            return None;
-        }
-        Some(((account - 1) * 16 + (issue - 1)) as usize)
+        Some(offset(account, ACCOUNTS)? * ISSUES + offset(issue, ISSUES)?)
     }
 
+    #[tactic(auto, using(crate::proofs::Cells::grid_length, crate::proofs::Cells::grid_get_or))]
     fn figures(&self, place: usize) -> (u64, u64) {
-        let cell = self.cells[place];
-        (cell.free, cell.held)
+        let Holding { free, held } = self.cells[place];
+        (free, held)
     }
 
     fn sum(&self, issue: u64) -> u64 {
-        if issue < 1 || issue > ISSUES {
-            return 0;
-        }
-        self.totals[(issue - 1) as usize]
+        offset(issue, ISSUES).map_or(0, |i| self.totals[i])
     }
 
     fn write(&mut self, place: usize, free: u64, held: u64) {
+        let issue = place % ISSUES;
         let old = self.cells[place];
-        let total = self.totals[place % 16] - (old.free + old.held);
+        let total = self.totals[issue] - (old.free + old.held);
         self.cells[place] = Holding { free, held };
-        self.totals[place % 16] = total + (free + held);
-    }
-}
-
-impl Register for Grid {
-    ghost rows = { λ g. grid_rows g.cells };
-
-    ghost lawfully = { λ g. g.ruled };
-
-    ghost Rest = { Unit {0} };
-
-    ghost rest = { λ _. tt };
-
-    fn balance(&self, account: u64, issue: u64) -> Option<(u64, u64)> {
-        movers::balance(self, account, issue)
-    }
-
-    fn total(&self, issue: u64) -> u64 {
-        self.sum(issue)
-    }
-
-    fn deposit(&mut self, account: u64, issue: u64, q: u64) -> Result<(), RegisterFault> {
-        movers::deposit(self, account, issue, q)
-    }
-
-    fn withdraw(&mut self, account: u64, issue: u64, q: u64) -> Result<(), RegisterFault> {
-        movers::shift(self, Move::Withdraw, account, issue, q)
-    }
-
-    fn hold(&mut self, account: u64, issue: u64, q: u64) -> Result<(), RegisterFault> {
-        movers::shift(self, Move::Hold, account, issue, q)
-    }
-
-    fn release(&mut self, account: u64, issue: u64, q: u64) -> Result<(), RegisterFault> {
-        movers::shift(self, Move::Release, account, issue, q)
-    }
-
-    fn settle(&mut self, seller: u64, buyer: u64, issue: u64, q: u64) -> Result<(), RegisterFault> {
-        movers::settle(self, seller, buyer, issue, q)
+        self.totals[issue] = total + (free + held);
     }
 }

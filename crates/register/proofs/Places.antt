@@ -1,7 +1,9 @@
 -- What lawful rows give: each pair has one place, and the totals are within their limit. Assumes nothing.
-use Rattle.std.proofs.Common.{◌≡◌, ℕ, zero, suc, ◌+◌, ◌<◌, ◌≤◌, Bool, true, false, leb, ◌⊎◌, List, [], ◌∷◌, length, get_or, set, Some, None, sym, refl, ap, ◌∙◌, inl, inr, ⊎_elim, arith}
+use Rattle.std.proofs.Common.{◌≡◌, ℕ, zero, suc, ◌+◌, ◌<◌, ◌≤◌, Bool, true, false, leb, ◌⊎◌, List, [], ◌∷◌, length, get_or, set, Some, None, Option, sym, refl, ap, ◌∙◌, inl, inr, ⊎_elim, arith}
 use Rattle.std.specs.List.{range_with_len, list_all}
+use Rattle.std.specs.Option.{MatchOption}
 use Rattle.std.proofs.lemmas.Bool.{and_parts, or_cases, eqb-true, ltb-true, leb-true, cond-true, cond-false, cases_Bool, ne_eqb, cases_lt, eq-eqb}
+use Rattle.std.proofs.lemmas.Option.{MatchOption-at_some}
 use Rattle.std.proofs.lemmas.List.Sums.{sum_by-cons, sum_by-set, get_or-le-sum_by}
 use Rattle.register.specs.declared.holding.Row.{Row}
 use Rattle.register.specs.Places.{no_row, Placed}
@@ -151,22 +153,40 @@ placed_total a i rs k w p free held =
 pub placed_balance : (a i : ℕ) (rs : List Row) (k : ℕ) → lawful rs ≡ true → Placed a i rs k → balance_of a i rs ≡ Some ((get_or rs k no_row).free, (get_or rs k no_row).held)
 placed_balance a i rs k w p = balance_at a i rs k (lawful_ascending rs w) p.within p.here
 
--- the same of what was read there
-pub read_le : (a i : ℕ) (rs : List Row) (k : ℕ) → lawful rs ≡ true → Placed a i rs k → (x : ℕ × ℕ) → x ≡ ((get_or rs k no_row).free, (get_or rs k no_row).held) → (x.0 + x.1 ≤ total_of i rs) × (total_of i rs ≤ limit)
-read_le a i rs k w p x e =
-    let l = placed_le a i rs k w p in
-    let f : x.0 ≡ (get_or rs k no_row).free = ap (λ y. y.0) e in
-    let h : x.1 ≡ (get_or rs k no_row).held = ap (λ y. y.1) e in
-    (omega arith, l.2)
+-- ---- what was read at a pair's place
 
--- what `store` requires
-pub read_fits : (a i : ℕ) (rs : List Row) (k : ℕ) → lawful rs ≡ true → Placed a i rs k → (x : ℕ × ℕ) → x ≡ ((get_or rs k no_row).free, (get_or rs k no_row).held) → (n : ℕ) → total_of i rs + n ≤ limit + (x.0 + x.1) → total_of (get_or rs k no_row).issue rs + n ≤ limit + ((get_or rs k no_row).free + (get_or rs k no_row).held)
-read_fits a i rs k w p x e n l =
-    let m = placed_le a i rs k w p in
-    let s = ap (λ j. total_of j rs) m.0 in
-    let f : x.0 ≡ (get_or rs k no_row).free = ap (λ y. y.0) e in
-    let h : x.1 ≡ (get_or rs k no_row).held = ap (λ y. y.1) e in
-    omega arith
+-- k is the place of the pair (a, i) among rows that keep the rules, and x has its shares
+pub record Read (a i : ℕ) (rs : List Row) (k : ℕ) (x : ℕ × ℕ) : Type 0 where
+  pub law : lawful rs ≡ true
+  pub place : Placed a i rs k
+  pub is : x ≡ ((get_or rs k no_row).free, (get_or rs k no_row).held)
+
+-- by what `find` and `figures` ensure
+pub placed : (a i : ℕ) (rs : List Row) (o : Option ℕ) (k : ℕ) → MatchOption o (balance_of a i rs ≡ None) (λ j. Placed a i rs j) → o ≡ Some k → Placed a i rs k
+placed a i rs o k m e = MatchOption-at_some (balance_of a i rs ≡ None) (λ j. Placed a i rs j) k e m
+
+pub read_at : (a i : ℕ) (rs : List Row) (o : Option ℕ) (k : ℕ) (x : ℕ × ℕ) → lawful rs ≡ true → MatchOption o (balance_of a i rs ≡ None) (λ j. Placed a i rs j) → o ≡ Some k → x ≡ ((get_or rs k no_row).free, (get_or rs k no_row).held) → Read a i rs k x
+read_at a i rs o k x w m e f = record { law = w; place = placed a i rs o k m e; is = f }
+
+module _ {a i : ℕ} {rs : List Row} {k : ℕ} {x : ℕ × ℕ} (r : Read a i rs k x) where
+  pub read_balance : balance_of a i rs ≡ Some x
+  read_balance = placed_balance a i rs k r.law r.place ∙ ap Some (sym r.is)
+
+  pub read_le : (x.0 + x.1 ≤ total_of i rs) × (total_of i rs ≤ limit)
+  read_le =
+      let l = placed_le a i rs k r.law r.place in
+      let f : x.0 ≡ (get_or rs k no_row).free = ap (λ y. y.0) r.is in
+      let h : x.1 ≡ (get_or rs k no_row).held = ap (λ y. y.1) r.is in
+      (omega arith, l.2)
+
+  -- what `write` requires of new shares, n together
+  pub read_fits : (n : ℕ) → total_of i rs + n ≤ limit + (x.0 + x.1) → total_of (get_or rs k no_row).issue rs + n ≤ limit + ((get_or rs k no_row).free + (get_or rs k no_row).held)
+  read_fits n l =
+      let m = placed_le a i rs k r.law r.place in
+      let s = ap (λ j. total_of j rs) m.0 in
+      let f : x.0 ≡ (get_or rs k no_row).free = ap (λ y. y.0) r.is in
+      let h : x.1 ≡ (get_or rs k no_row).held = ap (λ y. y.1) r.is in
+      omega arith
 
 -- ---- for users: a balance is part of its issue's total
 

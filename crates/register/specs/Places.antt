@@ -6,10 +6,6 @@ use Rattle.register.specs.Rules.{names}
 abbrev pub no_row : Row
 no_row = record { account = 0; issue = 0; free = 0; held = 0 }
 
--- a row of the pair (a, i), to compare with
-abbrev pub sought : ℕ → ℕ → Row
-sought a i = record { account = a; issue = i; free = 0; held = 0 }
-
 -- k is the place of the pair (a, i)
 pub record Placed (a i : ℕ) (rs : List Row) (k : ℕ) : Type 0 where
   pub within : k < length rs

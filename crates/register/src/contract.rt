@@ -15,6 +15,7 @@ ghost use Rattle.register.specs.Rules.{
 
 use super::fault::RegisterFault;
 
+// Account and issue stay two parameters: the calls of the market and its orders name them apart.
 pub trait Register {
     // The open pairs with their shares, ascending by account, then issue.
     ghost rows: { Self → List Row };

@@ -2,18 +2,18 @@
 ghost use Rattle.std.specs.Prelude.{◌≡◌};
 ghost use Rattle.register.specs.Rules.{fault_number};
 
-#[derive(Clone, Copy)]
+#[derive(Clone, Copy, PartialEq, Eq, Debug)]
 pub enum RegisterFault {
     // a pair that the call names is not open
-    NotOpen,
+    NotOpen = 1,
     // free is below the quantity
-    ShortFree,
+    ShortFree = 2,
     // held is below the quantity
-    ShortHeld,
+    ShortHeld = 3,
     // the issue's total would pass its limit
-    OverTotal,
+    OverTotal = 4,
     // the rows break a rule
-    BadRows,
+    BadRows = 5,
 }
 
 impl RegisterFault {
@@ -21,12 +21,6 @@ impl RegisterFault {
     pub fn number(self) -> u64
         ensures { result ≡ fault_number self }
     {
-        match self {
-            RegisterFault::NotOpen => 1,
-            RegisterFault::ShortFree => 2,
-            RegisterFault::ShortHeld => 3,
-            RegisterFault::OverTotal => 4,
-            RegisterFault::BadRows => 5,
-        }
+        self as u64
     }
 }

@@ -30,15 +30,11 @@ pub fn settle_in_rows(
 mod tests {
     use super::*;
     use grid::Grid;
-
-    const LIMIT: u64 = 1_000_000_000_000;
+    use register::movers::LIMIT;
 
     // 0 where the call was done, else the number of its fault.
     fn number(r: Result<(), RegisterFault>) -> u64 {
-        match r {
-            Ok(()) => 0,
-            Err(fault) => fault.number(),
-        }
+        r.err().map_or(0, RegisterFault::number)
     }
 
     fn row(account: u64, issue: u64, free: u64, held: u64) -> Row {
@@ -154,10 +150,8 @@ mod tests {
 
     // Rows of the accounts from `first` up.
     fn numbered(list: &mut [Row], first: u64) {
-        let mut account = first;
-        for r in list.iter_mut() {
+        for (r, account) in list.iter_mut().zip(first..) {
             r.account = account;
-            account = account.saturating_add(1);
         }
     }
 

@@ -5,11 +5,8 @@ ghost use Rattle.std.specs.Prelude.{◌≡◌, true};
 ghost use Rattle.rows.specs.Checks.{Lent, acceptable, checked, lent, meant};
 ghost use Rattle.register.specs.Rules.{lawful};
 
-use register::contract::Register;
 use register::fault::RegisterFault;
 use register::holding::Row;
-use register::movers;
-use register::movers::Move;
 use register::store::Store;
 
 mod scan;
@@ -17,6 +14,7 @@ mod scan;
 // At most this many rows.
 const MOST: usize = 4096;
 
+// The flag stands beside the rows, and no Option holds them, since they are handed out whatever it says.
 #[derive(Drop)]
 pub struct RowRegister<'a> {
     rows: &'a mut [Row],
@@ -24,15 +22,22 @@ pub struct RowRegister<'a> {
     ghost ruled: { lawful (meant usable rows.now) ≡ true },
 }
 
+// A register may be made over the rows.
+#[tactic(auto, unfolding(register::specs::Rules::lawful))]
+fn are_acceptable(rows: &[Row]) -> bool
+    ensures { result ≡ acceptable rows.now }
+{
+    rows.len() <= MOST
+        && scan::are_ascending(rows)
+        && scan::are_in_range(rows)
+        && scan::are_capped(rows)
+}
+
 // R5 where the rows break a rule.
 pub fn check(rows: &[Row]) -> Result<(), RegisterFault>
     ensures { result ≡ checked rows.now }
 {
-    if rows.len() <= MOST
-        && scan::are_ascending(rows)
-        && scan::are_in_range(rows)
-        && scan::are_capped(rows)
-    {
+    if are_acceptable(rows) {
         Ok(())
     } else {
         Err(RegisterFault::BadRows)
@@ -46,7 +51,7 @@ impl<'a> RowRegister<'a> {
         ensures named { result.rows.ghost_name ≡ rows.entry.ghost_name }
         ensures usable { result.usable ≡ acceptable rows.old }
     {
-        let usable = check(rows).is_ok();
+        let usable = are_acceptable(rows);
         RowRegister { rows, usable }
     }
 
@@ -55,6 +60,13 @@ impl<'a> RowRegister<'a> {
         ensures { result.now ≡ self.now.rows.now }
     {
         &*self.rows
+    }
+
+    // The open pairs: none over rows that break a rule.
+    fn open_rows(&self) -> &[Row]
+        ensures { result.now ≡ meant self.now.usable self.now.rows.now }
+    {
+        if self.usable { self.rows } else { &[] }
     }
 }
 
@@ -68,71 +80,20 @@ impl<'a> Store for RowRegister<'a> {
     ghost rest = { λ s. lent s.rows.ghost_name s.usable s.rows.now };
 
     fn find(&self, account: u64, issue: u64) -> Option<usize> {
-        if self.usable {
-            scan::find(self.rows, account, issue)
-        } else {
-            None
-        }
+        scan::find(self.open_rows(), account, issue)
     }
 
     fn figures(&self, place: usize) -> (u64, u64) {
-        let row = self.rows[place];
-        (row.free, row.held)
+        let Row { free, held, .. } = self.rows[place];
+        (free, held)
     }
 
     fn sum(&self, issue: u64) -> u64 {
-        if self.usable {
-            scan::total_within(self.rows, issue).unwrap_or(0)
-        } else {
-            0
-        }
+        scan::total_within(self.open_rows(), issue).unwrap_or(0)
     }
 
     fn write(&mut self, place: usize, free: u64, held: u64) {
         let row = self.rows[place];
-        self.rows[place] = Row {
-            account: row.account,
-            issue: row.issue,
-            free,
-            held,
-        };
-    }
-}
-
-impl<'a> Register for RowRegister<'a> {
-    ghost rows = { λ s. meant s.usable s.rows.now };
-
-    ghost lawfully = { λ s. s.ruled };
-
-    ghost Rest = { Lent };
-
-    ghost rest = { λ s. lent s.rows.ghost_name s.usable s.rows.now };
-
-    fn balance(&self, account: u64, issue: u64) -> Option<(u64, u64)> {
-        movers::balance(self, account, issue)
-    }
-
-    fn total(&self, issue: u64) -> u64 {
-        self.sum(issue)
-    }
-
-    fn deposit(&mut self, account: u64, issue: u64, q: u64) -> Result<(), RegisterFault> {
-        movers::deposit(self, account, issue, q)
-    }
-
-    fn withdraw(&mut self, account: u64, issue: u64, q: u64) -> Result<(), RegisterFault> {
-        movers::shift(self, Move::Withdraw, account, issue, q)
-    }
-
-    fn hold(&mut self, account: u64, issue: u64, q: u64) -> Result<(), RegisterFault> {
-        movers::shift(self, Move::Hold, account, issue, q)
-    }
-
-    fn release(&mut self, account: u64, issue: u64, q: u64) -> Result<(), RegisterFault> {
-        movers::shift(self, Move::Release, account, issue, q)
-    }
-
-    fn settle(&mut self, seller: u64, buyer: u64, issue: u64, q: u64) -> Result<(), RegisterFault> {
-        movers::settle(self, seller, buyer, issue, q)
+        self.rows[place] = Row { free, held, ..row };
     }
 }

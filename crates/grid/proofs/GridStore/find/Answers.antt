@@ -1,11 +1,16 @@
-use Rattle.std.proofs.Common.{⊎_elim, arith}
-use Rattle.grid.proofs.Cells.{grid_absent, grid_placed}
+use Rattle.std.proofs.Common.{rules}
+use Rattle.grid.proofs.Cells.{grid_placed, grid_no_account, grid_no_issue}
 use Rattle.grid.proofs.GridStore.find.Goals as goal
 
-pub returns-then-account-lt1 : goal.returns-then-account-lt1
-returns-then-account-lt1 c =
-    grid_absent c.args.self.now.cells c.args.account c.args.issue c.args.self.now.wide
-    (λ k l a i. ⊎_elim (λ x. omega arith) (⊎_elim (λ x. omega arith) (⊎_elim (λ x. omega arith) (λ x. omega arith))) c.then-account-lt1.either)
+pub returns-in_err-offset : goal.returns-in_err-offset
+returns-in_err-offset c =
+    let no = grid_no_account c.args.self.now.cells c.args.account c.args.issue c.args.self.now.wide c.in_err-offset.ensures in
+    search rules
+
+pub returns-in_err-offset-2 : goal.returns-in_err-offset-2
+returns-in_err-offset-2 c =
+    let no = grid_no_issue c.args.self.now.cells c.args.account c.args.issue c.args.self.now.wide c.in_err-offset-2.ensures in
+    search rules
 
 pub returns : goal.returns
-returns c = grid_placed c.args.self.now.cells c.args.account c.args.issue c.args.self.now.wide (omega arith) (omega arith) (omega arith) (omega arith)
+returns c = grid_placed _ _ _ _ _ c.args.self.now.wide c.in_ok-offset.ensures c.in_ok-offset-2.ensures

@@ -1,10 +1,9 @@
-use Rattle.std.proofs.Common.{◌+◌, sym, ◌∙◌, arith}
-use Rattle.register.proofs.Sets.{capped_from}
-use Rattle.rows.proofs.Scans.{one_over, is_none}
+use Rattle.std.proofs.Common.{leb, refl, rules}
+use Rattle.std.proofs.lemmas.Iterator.{YieldsList-from_range}
+use Rattle.std.proofs.lemmas.Iterator.Search.{all_from_yields_List}
+use Rattle.register.specs.Rules.{limit, total_of, issues}
 use Rattle.rows.proofs.scan.are_capped.Goals as goal
 
-pub returns-then-is_none : goal.returns-then-is_none
-returns-then-is_none c = one_over c.loop-issue.issue c.args.rows.now (omega arith) (omega arith) (sym c.total_within.ensures ∙ is_none _ c.if-is_none.ensures)
-
 pub returns : goal.returns
-returns c = sym (capped_from c.args.rows.now (λ i l. c.loop-issue.invariant (i + 1) (omega arith) (omega arith)))
+unfolding issues
+returns c = all_from_yields_List (λ i. leb (total_of i c.args.rows.now) limit) _ _ _ c.all.ensures.ran (YieldsList-from_range 1 17 16 refl refl) (λ x b q k. search rules)
