@@ -1,9 +1,9 @@
 -- What a report comes to, line by line. Assumes nothing.
-use Rattle.std.proofs.Common.{◌≡◌, ℕ, ◌+◌, ◌<◌, ◌≤◌, true, false, List, [], ◌∷◌, ◌++◌, length, take, drop, Ok, Err, sym, refl, ap, ◌∙◌, subst, ⊎_elim, append_assoc, append-nil, arith, length-append}
+use Rattle.std.proofs.Common.{◌≡◌, ℕ, ◌+◌, ◌<◌, ◌≤◌, true, false, List, [], ◌∷◌, ◌++◌, length, Ok, Err, sym, refl, ap, ◌∙◌, subst, ⊎_elim, append_assoc, append-nil, arith, length-append}
 use Rattle.std.proofs.lemmas.List.{nil_from_length}
 use Rattle.std.proofs.lemmas.Bool.{cond-true, cond-false, cases_Bool}
 use Rattle.register.specs.declared.holding.Row.{Row}
-use Rattle.text.specs.Lines.{lines_of, FirstLine}
+use Rattle.text.specs.Lines.{lines_of}
 use Rattle.statements.specs.Statement.{unread_line}
 use Rattle.statements.specs.Report.{Reading, ReadAs, all_read, rows_in, unread_lines, statement_of, Reported, Line}
 
@@ -30,34 +30,31 @@ some_unread n [] e = let z : ◌≡◌ {A = ℕ} 0 1 = cc in absurd (omega arith
 some_unread n (Ok row ∷ rs) e = some_unread (n + 1) rs e
 some_unread n (Err x ∷ rs) e = omega arith
 
--- the readings so far, and those of what is left, are the readings of all
-pub record Sofar (input : List ℕ) (rows : List Row) (refused : List ℕ) (number : ℕ) (rest : List ℕ) : Type 0 where
+-- the readings of the lines taken so far, and those of what is left, are the readings of all
+pub record Sofar (input : List ℕ) (rows : List Row) (refused : List ℕ) (taken : ℕ) (rest : List ℕ) : Type 0 where
   pub got : List Reading
   pub joins : (more : List Reading) → ReadAs (lines_of rest) more → ReadAs (lines_of input) (got ++ more)
   pub rows_are : rows ≡ rows_in got
   pub refused_are : refused ≡ unread_lines 1 got
-  pub counted : number ≡ length got + 1
+  pub counted : taken ≡ length got
 
-pub none_yet : (input : List ℕ) (rows : List Row) (refused : List ℕ) → rows ≡ [] → refused ≡ [] → Sofar input rows refused 1 input
-none_yet input rows refused r f = record { got = []; joins = λ more m. m; rows_are = r; refused_are = f; counted = refl }
-
-pub one_line : {input : List ℕ} {rows : List Row} {refused : List ℕ} {number : ℕ} {rest : List ℕ} (n : ℕ) {rows' : List Row} {refused' : List ℕ} → Sofar input rows refused number rest
-    → FirstLine rest n → Line number (take n rest) rows refused rows' refused' → Sofar input rows' refused' (number + 1) (drop n rest)
-one_line {input} {rows} {refused} {number} {rest} n {rows'} {refused'} s first line = record {
+pub one_line : {input : List ℕ} {rows : List Row} {refused : List ℕ} {taken : ℕ} {rest : List ℕ} (line after : List ℕ) (i taken' : ℕ) {rows' : List Row} {refused' : List ℕ} → Sofar input rows refused taken rest
+    → lines_of rest ≡ line ∷ lines_of after → i ≡ taken → taken' ≡ taken + 1 → Line (i + 1) line rows refused rows' refused' → Sofar input rows' refused' taken' after
+one_line {input} {rows} {refused} {taken} {rest} l after i taken' {rows'} {refused'} s cut at next line = record {
   got = s.got ++ (line.reading ∷ []);
   joins = λ more m.
       subst (ReadAs (lines_of input)) (sym (append_assoc s.got (line.reading ∷ []) more))
-      (s.joins (line.reading ∷ more) (subst (λ ls. ReadAs ls (line.reading ∷ more)) (sym first.cuts) (line.means, m)));
+      (s.joins (line.reading ∷ more) (subst (λ ls. ReadAs ls (line.reading ∷ more)) (sym cut) (line.means, m)));
   rows_are = line.rows_after ∙ ap (λ l. l ++ rows_in (line.reading ∷ [])) s.rows_are ∙ sym (rows_join s.got (line.reading ∷ []));
   refused_are =
       line.refused_after
-      ∙ ap (λ l. l ++ unread_lines number (line.reading ∷ [])) s.refused_are
+      ∙ ap (λ l. l ++ unread_lines (i + 1) (line.reading ∷ [])) s.refused_are
       ∙ ap (λ k. unread_lines 1 s.got ++ unread_lines k (line.reading ∷ [])) (let c = s.counted in omega arith)
       ∙ sym (unread_join 1 s.got (line.reading ∷ []));
   counted = let c = s.counted in simp length-append (omega arith);
 }
 
-module _ {input : List ℕ} {rows : List Row} {refused : List ℕ} {number : ℕ} {rest : List ℕ} (s : Sofar input rows refused number rest) (none : length rest ≤ 0) where
+module _ {input : List ℕ} {rows : List Row} {refused : List ℕ} {taken : ℕ} {rest : List ℕ} (s : Sofar input rows refused taken rest) (none : length rest ≡ 0) where
   all_lines : ReadAs (lines_of input) s.got
   all_lines =
       let e : rest ≡ [] = nil_from_length rest (omega arith) in

@@ -1,6 +1,6 @@
 -- The lines of a statement. Assumes nothing.
-use Rattle.std.specs.Prelude.{ℕ, Bool, false, cond, ◌||◌, List, [], ◌∷◌, Some, None, codes, decimal, Option, ◌==◌}
-use Rattle.std.specs.List.{flat_map}
+use Rattle.std.specs.Prelude.{ℕ, Bool, cond, List, [], ◌∷◌, Some, None, codes, decimal, Option, ◌==◌}
+use Rattle.std.specs.List.{flat_map, list_any}
 use Rattle.register.specs.declared.holding.Row.{Row}
 use Rattle.register.specs.Rules.{balance_of, total_of, issues}
 
@@ -30,8 +30,7 @@ abbrev pub balance_lines : List Row → List Row → List ℕ
 balance_lines pairs rs = flat_map (λ p. balance_at p.account p.issue rs) pairs
 
 abbrev pub has_issue : ℕ → List Row → Bool
-has_issue i [] = false
-has_issue i (p ∷ ps) = p.issue == i || has_issue i ps
+has_issue i ps = list_any (λ p. p.issue == i) ps
 
 abbrev pub total_at : List Row → List Row → ℕ → List ℕ
 total_at pairs rs i = cond (has_issue i pairs) (total_line i (total_of i rs)) []

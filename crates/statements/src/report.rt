@@ -3,12 +3,12 @@ ghost use Rattle.std.specs.Prelude.{◌≡◌, ◌++◌, IfOk, string_bytes, OnO
 ghost use Rattle.statements.specs.Report.{statement_of, Reported, Line};
 
 use super::read::read_row;
-use super::write::{write_refused, write_statement, write_unread};
+use super::write::{Refused, Unread, write_statement};
 use register::contract::Register;
 use register::holding::Row;
 use rows::{RowRegister, check};
 use std::alloc::{AllocError, Global};
-use text::lines::first_line;
+use text::form::Malformed;
 
 // The statement of rows, or the refusal of rows that break the register's rules.
 pub fn statement(heap: Global, rows: &mut [Row]) -> Result<String, AllocError>
@@ -21,7 +21,7 @@ pub fn statement(heap: Global, rows: &mut [Row]) -> Result<String, AllocError>
             let register = RowRegister::new(rows);
             write_statement(&mut out, &register, register.rows())?;
         }
-        Err(fault) => write_refused(&mut out, fault.number())?,
+        Err(fault) => write!(out, "{}", Refused(fault))?,
     }
     Ok(out)
 }
@@ -36,12 +36,10 @@ fn take_line(
     ensures { OnOk result (Line number line.now rows.old.items (string_bytes refused.old) rows.new.items (string_bytes refused.new)) }
 {
     match read_row(line) {
-        Ok(row) => {
-            rows.push(row)?;
-            Ok(())
-        }
-        Err(e) => write_unread(refused, number, e.column),
+        Ok(row) => rows.push(row)?,
+        Err(Malformed { column }) => write!(refused, "{}", Unread { number, column })?,
     }
+    Ok(())
 }
 
 // The answer to an input: the statement of the rows that its lines are, or the lines that are none.
@@ -50,16 +48,11 @@ pub fn report(heap: Global, input: &[u8]) -> Result<String, AllocError>
 {
     let mut rows = Vec::new(heap);
     let mut refused = String::new(heap);
-    let mut number = 1;
-    let mut rest = input;
-    while rest.len() > 0 {
-        let n = first_line(rest);
-        take_line(&mut rows, &mut refused, number, &rest[0..n])?;
-        rest = &rest[n..];
-        number += 1;
+    for (i, line) in input.split_inclusive(|b| *b == b'\n').enumerate() {
+        take_line(&mut rows, &mut refused, i + 1, line)?;
     }
-    if refused.as_bytes().len() > 0 {
+    if !refused.is_empty() {
         return Ok(refused);
     }
-    statement(heap, rows.as_mut_slice())
+    statement(heap, &mut rows)
 }

@@ -4,7 +4,7 @@ use Rattle.std.specs.Str.Parse.{digits_value}
 use Rattle.std.proofs.str.Laws.{order}
 use Rattle.std.proofs.lemmas.Fmt.{decimal-digits_value, digits_decimal, decimal_nonempty, decimal_digit, first_decimal, length-decimal-le, decimal_injective}
 use Rattle.std.proofs.lemmas.List.Prefix.{front_reads}
-use Rattle.std.proofs.lemmas.List.{take-append-drop, take-take, drop-take, take_all, length-append, length-take-le, get_or-take, get_or-drop, get_or_append_left, get_or-append-add, take_at}
+use Rattle.std.proofs.lemmas.List.{take-append-drop, take-take, drop-take, length-append, length-take-le, get_or-take, get_or-drop, get_or_append_left, get_or-append-add, take_at}
 use Rattle.std.proofs.lemmas.Str.Parse.{IsNumeralModel, numerals_by_value, tells_by_index, digits_value_short}
 use Rattle.text.specs.declared.reader.NumberEnd.{NumberEnd}
 use Rattle.text.specs.declared.reader.NumberEnd.TheVariants.{Space, Close}
@@ -12,8 +12,8 @@ use Rattle.text.specs.declared.tokens.Token.{Token}
 use Rattle.text.specs.declared.tokens.Token.TheVariants as token
 use Rattle.text.specs.Columns.{Small, Begins, Column}
 use Rattle.text.specs.Tokens.{Digit, Digits, Letter, Run, TokenAt}
-use Rattle.text.specs.Tree.{Gram, num, end_byte, Lang, Expects}
-use Rattle.text.proofs.Steps.{read_as, begins_shorter, stuck, alive, next_byte}
+use Rattle.text.specs.Tree.{Gram, lit, num, end_byte, Lang, Expects}
+use Rattle.text.proofs.Steps.{read_as, begins_shorter, stuck, alive}
 
 -- a number is ended by no digit
 pub end_low : (e : NumberEnd) → end_byte e < 48
@@ -54,6 +54,15 @@ ends (y ∷ v) t u x b not D e = absurd (not (subst Digit (sym (ap (λ l. get_or
 
 none_left : (v u : List ℕ) (b : ℕ) → [] ≡ v ++ (b ∷ u) → ⊥
 none_left v u b e = omega (arith, simp length-append at (ap length e))
+
+-- a text that begins as `rest` does
+next_is : (x : ℕ) (t rest : List ℕ) → take 1 (x ∷ t) ≡ take 1 rest → (0 < length rest) × (x ≡ get_or rest 0 0)
+next_is x t [] e = cc
+next_is x t (y ∷ rest) e = (omega arith, ap (λ l. get_or l 0 0) e)
+
+lit_text : {C : Type 0} (b : ℕ) (G : Gram C) (t : List ℕ) (c : C) → Lang (lit b G) t c → (u : List ℕ) × (t ≡ b ∷ u) × Lang G u c
+lit_text b G [] c l = absurd l
+lit_text b G (x ∷ u) c l = (u, ap (λ y. y ∷ u) l.0, l.1)
 
 take_one : (l : List ℕ) → 0 < length l → take 1 l ≡ get_or l 0 0 ∷ []
 take_one [] h = absurd (omega arith)
@@ -193,43 +202,31 @@ module _ {C : Type 0} (R : C → List ℕ → Type 0) where
         no_digit : at + length ds < length line → Digit (get_or line (at + length ds) 0) → ⊥
         no_digit lt d = N.stops (omega (arith, length-drop at line)) (subst Digit (sym (get_or-drop at line (length ds) 0)) d)
 
-        one_more : (t : List ℕ) → at + length ds < length line → take (length ds + 1) (drop at line) ++ t ≡ ds ++ (get_or line (at + length ds) 0 ∷ t)
-        one_more t lt = next_byte (drop at line) (length ds) t (omega (arith, length-drop at line)) ∙ ap (λ l. l ++ (get_or (drop at line) (length ds) 0 ∷ t)) front_is ∙ ap (λ x. ds ++ (x ∷ t)) (get_or-drop at line (length ds) 0)
+        joins : (t : List ℕ) → take at line ++ (ds ++ t) ≡ take (at + length ds) line ++ t
+        joins t = sym (ap (λ l. l ++ t) (take_add line at (length ds)) ∙ append_assoc (take at line) (take (length ds) (drop at line)) t ∙ ap (λ d. take at line ++ (d ++ t)) front_is)
 
-        nothing_more : (c : C) → Lang (num b K) (ds ++ []) c → ⊥
-        nothing_more c l = let g = goes_on ds [] c N.all l in none_left g.0 l.1 b g.2
+        ahead : (t : List ℕ) → take 1 (ds ++ t) ≡ take 1 (drop at line)
+        ahead t = ap (λ d. take 1 (d ++ t)) (sym front_is) ∙ front_agrees (drop at line) t (length ds) N.some (let s = short in let m = N.some in omega arith)
 
-        right_byte : (x : ℕ) (t : List ℕ) (c : C) → (Digit x → ⊥) → Lang (num b K) (ds ++ (x ∷ t)) c → x ≡ b
-        right_byte x t c not l =
+        onward : (t : List ℕ) (c : C) → take 1 t ≡ take 1 (drop (at + length ds) line) → Lang (num b K) (ds ++ t) c → Lang (lit b (K (digits_value 10 ds))) t c
+        onward [] c a l = let g = goes_on ds [] c N.all l in none_left g.0 l.1 b g.2
+        onward (x ∷ t) c a l =
+            let n = next_is x t (drop (at + length ds) line) a in
+            let not : Digit x → ⊥ = λ d. no_digit (omega (arith, n.0, length-drop (at + length ds) line)) (subst Digit (n.1 ∙ sym (at_first line (at + length ds))) d) in
             let g = goes_on ds (x ∷ t) c N.all l in
-            (ends g.0 t l.1 x b not (digits_tail ds g.0 (subst Digits g.1 (digits_decimal own l.0 (fits l.0 l.2)))) g.2).1
+            let f = ends g.0 t l.1 x b not (digits_tail ds g.0 (subst Digits g.1 (digits_decimal own l.0 (fits l.0 l.2)))) g.2 in
+            let same : l.0 ≡ digits_value 10 ds = decimal_injective l.0 (digits_value 10 ds) (fits l.0 l.2) (fits (digits_value 10 ds) is_written.0) (g.1 ∙ ap (λ v. ds ++ v) f.0 ∙ append-nil ds ∙ sym is_written.1) in
+            (f.1, subst (λ m. Lang (K m) t c) same (subst (λ u. Lang (K l.0) u c) (sym f.2) l.4))
 
-        -- another byte than the one that ends it
-        pub num_wrong : (at + length ds < length line → get_or line (at + length ds) 0 ≡ b → ⊥) → Column R line (at + length ds + 1)
-        num_wrong ne =
-            let s = short in
-            stuck_past (num b K) line at (length ds) h (let w = h.within in omega (arith, length-drop at line))
-            (some_text (take (length ds) (drop at line)) (digits_value 10 ds) is_written.0 (front_is ∙ sym is_written.1))
-            (λ e c l. nothing_more c (subst (λ t. Lang (num b K) t c) (sym (take_all (length ds) (drop at line) (omega (arith, length-drop at line))) ∙ front_is ∙ sym (append-nil ds)) l))
-            (λ lt t c l. ne lt (right_byte (get_or line (at + length ds) 0) t c (no_digit lt) (subst (λ w. Lang (num b K) w c) (one_more t lt) l)))
-
-        pub num_step : at + length ds < length line → get_or line (at + length ds) 0 ≡ b → Expects R (K (digits_value 10 ds)) line (at + length ds + 1)
-        num_step lt e = record {
-          within = omega arith;
-          from = λ t c l. read_as R (joins t) (h.from (ds ++ (b ∷ t)) c (digits_value 10 ds, t, is_written.0, ap (λ d. d ++ (b ∷ t)) (sym is_written.1), l));
-          to = λ t c a r.
-              let l = h.to (ds ++ (b ∷ t)) c (ahead t) (read_as R (sym (joins t)) r) in
-              let g = goes_on ds (b ∷ t) c N.all l in
-              let f = ends g.0 t l.1 b b (λ d. omega arith) (digits_tail ds g.0 (subst Digits g.1 (digits_decimal own l.0 (fits l.0 l.2)))) g.2 in
-              let same : l.0 ≡ digits_value 10 ds = decimal_injective l.0 (digits_value 10 ds) (fits l.0 l.2) (fits (digits_value 10 ds) is_written.0) (g.1 ∙ ap (λ v. ds ++ v) f.0 ∙ append-nil ds ∙ sym is_written.1) in
-              subst (λ n. Lang (K n) t c) same (subst (λ u. Lang (K l.0) u c) (sym f.2) l.4);
+        -- after the digits, the byte that ends them
+        pub num_digits : Expects R (lit b (K (digits_value 10 ds))) line (at + length ds)
+        num_digits = record {
+          within = let s = short in let w = h.within in omega (arith, length-drop at line);
+          from = λ t c l.
+              let m = lit_text b (K (digits_value 10 ds)) t c l in
+              read_as R (joins t) (h.from (ds ++ t) c (digits_value 10 ds, m.0, is_written.0, ap (λ s. ds ++ s) m.1 ∙ ap (λ d. d ++ (b ∷ m.0)) (sym is_written.1), m.2));
+          to = λ t c a r. onward t c a (h.to (ds ++ t) c (ahead t) (read_as R (sym (joins t)) r));
         }
-          where
-            joins : (t : List ℕ) → take at line ++ (ds ++ (b ∷ t)) ≡ take (at + length ds + 1) line ++ t
-            joins t = sym (next_byte line (at + length ds) t lt ∙ ap (λ x. take (at + length ds) line ++ (x ∷ t)) e ∙ ap (λ l. l ++ (b ∷ t)) (take_add line at (length ds)) ∙ append_assoc (take at line) (take (length ds) (drop at line)) (b ∷ t) ∙ ap (λ d. take at line ++ (d ++ (b ∷ t))) front_is)
-
-            ahead : (t : List ℕ) → take 1 (ds ++ (b ∷ t)) ≡ take 1 (drop at line)
-            ahead t = ap (λ d. take 1 (d ++ (b ∷ t))) (sym front_is) ∙ front_agrees (drop at line) (b ∷ t) (length ds) N.some (let s = short in let m = N.some in omega arith)
 
   -- of a line as the reader holds it
   pub here : {G : Gram C} {line held : List ℕ} {at : ℕ} → (held ≡ line) × Expects R G line at → Expects R G held at
@@ -237,3 +234,10 @@ module _ {C : Type 0} (R : C → List ℕ → Type 0) where
 
   pub column : {line held : List ℕ} (m n : ℕ) → held ≡ line → n ≡ m → Column R held m → Column R line n
   column {line} {held} m n e same p = subst (λ l. Column R l n) e (p.0, same ∙ p.1, p.2)
+
+  -- the reader that has read a number's digits
+  pub ending : {b e : ℕ} {K : ℕ → Gram C} {line held ds : List ℕ} {at : ℕ} → b < 48 → (held ≡ line) × Expects R (num b K) line at → Run Digit (drop at held) ds
+      → (get_or ds 0 0 ≡ 48 → length ds ≤ 1) → length ds ≤ 13 → e ≡ b → (held ≡ line) × Expects R (lit e (K (digits_value 10 ds))) line (at + length ds)
+  ending {b} {e} {K} {line} {held} {ds} {at} lo h N one le same =
+      let M = subst (λ l. Run Digit (drop at l) ds) h.0 N in
+      (h.0, subst (λ x. Expects R (lit x (K (digits_value 10 ds))) line (at + length ds)) (sym same) (num_digits lo h.1 M (λ z. omega (arith, one z, M.some)) le))

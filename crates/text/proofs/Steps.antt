@@ -1,6 +1,6 @@
 -- What each step of the reader keeps, for any forms. Assumes nothing.
 use Rattle.std.proofs.Common.{◌≡◌, ℕ, suc, ◌+◌, ◌<◌, ◌≤◌, List, [], ◌∷◌, ◌++◌, length, get_or, take, drop, IsErrAnd, decimal, Result, sym, refl, ap, ◌∙◌, subst, ⊎_elim, append_assoc, append-nil, arith, MatchResult}
-use Rattle.std.proofs.lemmas.List.{take_more, drop_more, take_all, drop_all, take-append-drop, length-take-le, take-take, get_or-take}
+use Rattle.std.proofs.lemmas.List.{take_more, drop_more, take_all, drop_all, take-append-drop, take-take}
 use Rattle.std.proofs.lemmas.Result.{err_from_is_err_and}
 use Rattle.std.proofs.str.Laws.{order}
 use Rattle.text.specs.declared.form.Malformed.{Malformed}
@@ -24,17 +24,22 @@ agrees line at t lt = rw (drop_more line at 0 lt) refl
 cons_nil : (x : ℕ) (t : List ℕ) → x ∷ t ≡ [] → ⊥
 cons_nil x t e = let z : ◌≡◌ {A = ℕ} (suc (length t)) 0 = ap length e in omega arith
 
--- the token that a run of bytes makes
-pub run_front : (In : ℕ → Type 0) (rest : List ℕ) (n : ℕ) → 0 < length rest → In (get_or rest 0 0) → n ≤ length rest
-    → ((k : ℕ) → k < n → In (get_or rest k 0)) → (n < length rest → In (get_or rest n 0) → ⊥) → Run In rest (take n rest)
-run_front In rest n more first fits all stops =
-    let long : length (take n rest) ≡ n = length-take-le n rest fits in
-    record {
-      some = ⊎_elim (λ lt. subst (λ m. 0 < m) (sym long) lt) (λ le. let z : n ≡ 0 = omega arith in absurd (stops (omega arith) (subst (λ m. In (get_or rest m 0)) (sym z) first))) (order 0 n);
-      front = subst (λ m. rest ≡ take n rest ++ drop m rest) (sym long) (sym (take-append-drop n rest));
-      all = λ k lt. let kn : k < n = omega arith in subst In (sym (get_or-take n rest k 0 kn)) (all k kn);
-      stops = subst (λ m. m < length rest → In (get_or rest m 0) → ⊥) (sym long) stops;
-    }
+-- a run whose first byte is In is not empty
+pub run_front : (In : ℕ → Type 0) (rest w : List ℕ) → 0 < length rest → In (get_or rest 0 0) → rest ≡ w ++ drop (length w) rest
+    → ((k : ℕ) → k < length w → In (get_or w k 0)) → (length w < length rest → In (get_or rest (length w) 0) → ⊥) → Run In rest w
+run_front In rest w more first front all stops = record {
+  some = ⊎_elim (λ lt. lt) (λ le. let z : length w ≡ 0 = omega arith in absurd (stops (omega arith) (subst (λ m. In (get_or rest m 0)) (sym z) first))) (order 0 (length w));
+  front = front;
+  all = all;
+  stops = stops;
+}
+
+-- a loop over the bytes of w, i of which are passed
+pub lits_next : {C : Type 0} (w : List ℕ) (G : Gram C) (i : ℕ) → i < length w → lits (drop i w) G ≡ lit (get_or w i 0) (lits (drop (i + 1) w) G)
+lits_next w G i lt = ap (λ l. lits l G) (drop_more w i 0 lt)
+
+pub lits_done : {C : Type 0} (w : List ℕ) (G : Gram C) (i : ℕ) → length w ≤ i → lits (drop i w) G ≡ G
+lits_done w G i ge = ap (λ l. lits l G) (drop_all i w ge)
 
 -- the exit of a `?`
 pub broke : {X : Type 0} (P : X → Type 0) (Q : Malformed → Type 0) (r : Result X Malformed) (e : Malformed) → IsErrAnd r (λ y. y ≡ e) → Q e → MatchResult r P Q
@@ -80,14 +85,6 @@ module _ {C : Type 0} (R : C → List ℕ → Type 0) where
     },
   )
 
-  -- one byte
-  pub lit_step : {b : ℕ} {G : Gram C} {line : List ℕ} {at : ℕ} → Expects R (lit b G) line at → at < length line → get_or line at 0 ≡ b → Expects R G line (at + 1)
-  lit_step {b} {G} {line} {at} h lt e = record {
-    within = omega arith;
-    from = λ t c l. read_as (sym (next_byte line at t lt)) (h.from (get_or line at 0 ∷ t) c (e, l));
-    to = λ t c a r. (h.to (get_or line at 0 ∷ t) c (agrees line at t lt) (read_as (next_byte line at t lt) r)).1;
-  }
-
   pub lit_stuck : {b : ℕ} {G : Gram C} {line : List ℕ} {at : ℕ} → Expects R (lit b G) line at → (at < length line → get_or line at 0 ≡ b → ⊥) → Column R line (at + 1)
   lit_stuck {b} {G} {line} {at} h ne = stuck (lit b G) line at h (λ _ c l. l) (λ lt t c l. ne lt l.0)
 
@@ -100,20 +97,3 @@ module _ {C : Type 0} (R : C → List ℕ → Type 0) where
 
   pub not_ended : {d : C} {line : List ℕ} {at : ℕ} → Expects R (stop d) line at → at < length line → Column R line (at + 1)
   not_ended {d} {line} {at} h lt = stuck (stop d) line at h (λ e c l. omega arith) (λ _ t c l. cons_nil (get_or line at 0) t l.0)
-
-  -- a loop over the bytes of w, i of which are passed; `held` is the line as the reader holds it
-  next_of : (G : Gram C) {line : List ℕ} {at : ℕ} (w : List ℕ) (i : ℕ) → i < length w → Expects R (lits (drop i w) G) line at → Expects R (lit (get_or w i 0) (lits (drop (i + 1) w) G)) line at
-  next_of G {line} {at} w i lt h = subst (λ l. Expects R (lits l G) line at) (drop_more w i 0 lt) h
-
-  pub lits_step : (G : Gram C) {line held : List ℕ} {at : ℕ} (w : List ℕ) (i : ℕ) → i < length w → (held ≡ line) × Expects R (lits (drop i w) G) line at
-      → at < length held → get_or held at 0 ≡ get_or w i 0 → (held ≡ line) × Expects R (lits (drop (i + 1) w) G) line (at + 1)
-  lits_step G {line} {held} {at} w i lt h more e =
-      (h.0, lit_step (next_of G w i lt h.1) (subst (λ l. at < length l) h.0 more) (subst (λ l. get_or l at 0 ≡ get_or w i 0) h.0 e))
-
-  pub lits_stuck : (G : Gram C) {line held : List ℕ} {at : ℕ} (w : List ℕ) (i : ℕ) → i < length w → (held ≡ line) × Expects R (lits (drop i w) G) line at
-      → (at < length held → get_or held at 0 ≡ get_or w i 0 → ⊥) → Column R line (at + 1)
-  lits_stuck G {line} {held} {at} w i lt h ne =
-      lit_stuck (next_of G w i lt h.1) (subst (λ l. at < length l → get_or l at 0 ≡ get_or w i 0 → ⊥) h.0 ne)
-
-  pub lits_done : (G : Gram C) {line held : List ℕ} {at : ℕ} (w : List ℕ) (i : ℕ) → length w ≤ i → (held ≡ line) × Expects R (lits (drop i w) G) line at → (held ≡ line) × Expects R G line at
-  lits_done G {line} {held} {at} w i ge h = (h.0, subst (λ l. Expects R (lits l G) line at) (drop_all i w ge) h.1)

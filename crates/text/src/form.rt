@@ -10,7 +10,7 @@ pub trait Form {
 }
 
 // The first column, from 1, at which no form's text goes on so.
-#[derive(Clone, Copy)]
+#[derive(Clone, Copy, PartialEq, Eq, Debug)]
 pub struct Malformed {
     pub column: usize,
 }

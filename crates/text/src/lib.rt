@@ -3,6 +3,5 @@
 
 mod cursor;
 pub mod form;
-pub mod lines;
 pub mod reader;
 pub mod tokens;

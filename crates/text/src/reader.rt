@@ -1,28 +1,25 @@
 // A reader of one line, which knows the column at which the line stops being a form.
-ghost use Rattle.std.specs.Prelude.{◌≡◌, ℕ, ◌+◌, ◌<◌, ◌≤◌, length, drop, MatchResult};
+ghost use Rattle.std.specs.Prelude.{◌≡◌, ℕ, ◌+◌, ◌^◌, ◌<◌, ◌≤◌, length, drop, MatchResult};
 ghost use Rattle.std.specs.Str.Parse.{digits_value};
 ghost use Rattle.text.specs.Tokens.{Digits, TokenAt};
-ghost use Rattle.text.specs.Tree.{Gram, lits, num, end_byte, Reads, Ends};
+ghost use Rattle.text.specs.Tree.{Gram, lit, lits, num, end_byte, Reads, Ends};
 
 pub use crate::cursor::Reader;
 use crate::form::{Form, Malformed};
 use crate::tokens::{Token, first_token};
 
 // What ends a number on a line.
-#[derive(Clone, Copy)]
+#[derive(Clone, Copy, PartialEq, Eq, Debug)]
 pub enum NumberEnd {
-    Space,
-    Close,
+    Space = b' ' as isize,
+    Close = b')' as isize,
 }
 
-impl NumberEnd {
-    fn byte(self) -> u8
-        ensures { result ≡ end_byte self }
-    {
-        match self {
-            NumberEnd::Space => b' ',
-            NumberEnd::Close => b')',
-        }
+impl From<NumberEnd> for u8 {
+    ghost from_gives = { λ end b. b ≡ end_byte end };
+
+    fn from(end: NumberEnd) -> u8 {
+        end as u8
     }
 }
 
@@ -31,9 +28,11 @@ const MAX_DIGITS: usize = 13;
 
 // The number that digits write.
 fn digits_value(ds: &[u8]) -> u64
-    requires { (Digits ds.now) × (length ds.now ≤ 13) }
+    requires digits { Digits ds.now }
+    requires short { length ds.now ≤ MAX_DIGITS }
     ensures { result ≡ digits_value 10 ds.now }
 {
+    // A loop: in a `fold`, the closure would have to show for each digit that the number still fits.
     let mut n = 0;
     for b in ds {
         n = n * 10 + u64::from(*b - b'0');
@@ -56,17 +55,33 @@ impl<'a> Reader<'a> {
         first_token(&self.line[self.at..])
     }
 
+    // No form's text goes on so, so many bytes past the place reached.
+    fn malformed(&self, past: usize) -> Malformed
+        requires { self.now.at + past < 2 ^ 63 }
+        ensures { result.column ≡ self.now.at + past + 1 }
+    {
+        Malformed {
+            column: self.at + past + 1,
+        }
+    }
+
+    // Passes the byte, which has to stand here.
+    fn byte<F: Form>(&mut self, b: u8) -> Result<(), Malformed>
+        ensures { (G : Gram F.Value) → Reads F.spells (lit b G) (λ _. G) self.old result self.new }
+    {
+        if self.line.get(self.at) != Some(&b) {
+            return Err(self.malformed(0));
+        }
+        self.at += 1;
+        Ok(())
+    }
+
     // Passes the text, which has to stand here.
     pub fn literal<F: Form>(&mut self, text: &[u8]) -> Result<(), Malformed>
         ensures { (G : Gram F.Value) → Reads F.spells (lits text.now G) (λ _. G) self.old result self.new }
     {
         for b in text {
-            if self.at >= self.line.len() || self.line[self.at] != *b {
-                return Err(Malformed {
-                    column: self.at + 1,
-                });
-            }
-            self.at += 1;
+            self.byte::<F>(*b)?;
         }
         Ok(())
     }
@@ -75,23 +90,17 @@ impl<'a> Reader<'a> {
     pub fn number<F: Form>(&mut self, end: NumberEnd) -> Result<u64, Malformed>
         ensures { (K : ℕ → Gram F.Value) → Reads F.spells (num (end_byte end) K) K self.old result self.new }
     {
-        let start = self.at;
         let Token::Number(ds) = self.peek() else {
-            return Err(Malformed { column: start + 1 });
+            return Err(self.malformed(0));
         };
-        if ds.len() > 1 && ds[0] == b'0' {
-            return Err(Malformed { column: start + 2 });
+        if let [b'0', _, ..] = ds {
+            return Err(self.malformed(1));
         }
         if ds.len() > MAX_DIGITS {
-            return Err(Malformed {
-                column: start + MAX_DIGITS + 1,
-            });
+            return Err(self.malformed(MAX_DIGITS));
         }
-        let after = start + ds.len();
-        if after >= self.line.len() || self.line[after] != end.byte() {
-            return Err(Malformed { column: after + 1 });
-        }
-        self.at = after + 1;
+        self.at += ds.len();
+        self.byte::<F>(u8::from(end))?;
         Ok(digits_value(ds))
     }
 
@@ -100,9 +109,7 @@ impl<'a> Reader<'a> {
         ensures { Ends F.spells value self.now result }
     {
         if self.at < self.line.len() {
-            return Err(Malformed {
-                column: self.at + 1,
-            });
+            return Err(self.malformed(0));
         }
         Ok(value)
     }

@@ -1,24 +1,23 @@
-use Rattle.std.proofs.Common.{◌<◌, ◌≤◌, length, string_bytes, ap, ◌∙◌, subst, arith, length-drop}
-use native.Mathlib.Nat.{sub-zero}
-use Rattle.std.proofs.lemmas.List.{take_rest}
+use Rattle.std.proofs.Common.{string_bytes, ap, ◌∙◌, rules}
+use borrow.Author.Tests.{tests}
 use Rattle.std.proofs.lemmas.Result.{IfOk-weaker}
+use Rattle.text.proofs.Cuts.{first_cut, lines_on}
 use Rattle.statements.specs.Report.{statement_of}
 use Rattle.statements.proofs.Reports.{one_line, some_refused, none_refused}
 use Rattle.statements.proofs.report.report.Goals as goal
 
-pub loop-rest-preserved : goal.loop-rest-preserved
-loop-rest-preserved c =
-    let first = c.first_line-n.ensures c.loop-rest-test.true in
-    let cut = take_rest c.loop-rest.rest.now c.first_line-n.result in (
-      rw cut (simp length-drop (let s = first.some in let w = first.within in omega arith)),
-      rw cut (one_line c.first_line-n.result c.loop-rest.invariant.1 first (rw sub-zero at c.in_ok-take_line.ensures)),
-    )
+pub loop-i-preserved : goal.loop-i-preserved
+loop-i-preserved c =
+    let s = c.in-Some.ensures.steps in
+    let first = first_cut _ _ _ _ _ _ s.0 (λ a r q k. search (rules, tests)) in
+    one_line c.in-Some.line.now _ c.in-Some.i _ c.loop-i.invariant (lines_on _ _ _ s.0.0 first) s.1 s.2 c.in_ok-take_line.ensures
 
-pub returns-then-as_bytes-gt0 : goal.returns-then-as_bytes-gt0
-returns-then-as_bytes-gt0 c = some_refused c.loop-rest.invariant.1 c.loop-rest-test.false (subst (λ l. 0 < length l) c.as_bytes.ensures.value c.if-as_bytes-gt0.true)
+pub returns-then-not-is_empty : goal.returns-then-not-is_empty
+returns-then-not-is_empty c = let n = c.in-None.ensures.steps in some_refused c.loop-i.invariant n.0.0 (search rules)
 
 pub returns : goal.returns
 returns c =
+    let n = c.in-None.ensures.steps in
     IfOk-weaker c.statement.result _ _
-    (λ s e. none_refused c.loop-rest.invariant.1 c.loop-rest-test.false (subst (λ l. length l ≤ 0) c.as_bytes.ensures.value c.if-as_bytes-gt0.false) (string_bytes s) (e ∙ ap statement_of c.as_mut_slice.ensures.value))
+    (λ s e. none_refused c.loop-i.invariant n.0.0 (search rules) (string_bytes s) (e ∙ ap statement_of c.deref_mut.ensures.value))
     c.statement.ensures.text
