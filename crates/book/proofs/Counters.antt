@@ -1,5 +1,6 @@
 -- Numbers and stamps stay below the next to be given, and each order keeps a stamp of its own.
-use Rattle.std.proofs.Common.{◌≡◌, ℕ, ◌+◌, ◌<◌, ◌≤◌, Bool, true, false, cond, [], ◌∷◌, ◌++◌, Some, None, Option, sym, refl, ap, ◌∙◌, subst, inl, inr, arith}
+use Rattle.std.proofs.Common.{◌≡◌, ℕ, ◌+◌, ◌<◌, ◌≤◌, Bool, true, false, cond, [], ◌∷◌, ◌++◌, is_some, unwrap_or, IfSome, Some, None, Option, sym, refl, ap, ◌∙◌, subst, inl, inr, arith}
+use Rattle.std.specs.Bool.{then_some}
 use Rattle.orders.specs.declared.order.Order.{Order}
 use Rattle.orders.specs.declared.order.Term.{Term}
 use Rattle.orders.specs.Search.{In}
@@ -23,11 +24,9 @@ pub under_changed : (key : Order → ℕ) (m n : ℕ) (f : Order → Order) (b :
 under_changed key m n f b u k o i = elim (in_changed n f b o i) [ inl j ↦ u o j | inr r ↦ subst (λ x. key x < m) r.2 (k r.0 (u r.0 r.1)) ]
 
 -- an amendment gives the next stamp, or none
-pub under_amended : (s k n q p : ℕ) (t : Term) (again : Bool) (b : Book) → k ≡ cond again (s + 1) s → Under stamp_of (s + 1) b → Under stamp_of (k + 1) (changed n (amended q p t again (s + 1)) b)
-under_amended s k n q p t true b e u =
-    under_changed stamp_of (k + 1) n (amended q p t true (s + 1)) b (under_more stamp_of (s + 1) (k + 1) b (omega arith) u) (λ o h. omega arith)
-under_amended s k n q p t false b e u =
-    under_changed stamp_of (k + 1) n (amended q p t false (s + 1)) b (under_more stamp_of (s + 1) (k + 1) b (omega arith) u) (λ o h. h)
+pub under_amended : (s n q p : ℕ) (t : Term) (again : Bool) (b : Book) → Under stamp_of (s + 1) b → Under stamp_of (cond again (s + 1) s + 1) (changed n (amended q p t again (s + 1)) b)
+under_amended s n q p t true b u = under_changed stamp_of (s + 1 + 1) n (amended q p t true (s + 1)) b (under_more stamp_of (s + 1) (s + 1 + 1) b (omega arith) u) (λ o h. omega arith)
+under_amended s n q p t false b u = under_changed stamp_of (s + 1) n (amended q p t false (s + 1)) b u (λ o h. h)
 
 pub under_without : (key : Order → ℕ) (m n : ℕ) (b : Book) → Under key m b → Under key m (without n b)
 under_without key m n b u o i = u o (in_kept _ b o i).0
@@ -47,9 +46,26 @@ own_same n b o p d e s k x i f = ap number_of (one_of stamp_of b d x o i (found_
 pub own_fresh : (b : Book) (p : Order) → Under stamp_of p.stamp b → OwnStamp p b
 own_fresh b p u x i f = absurd (omega (arith, u x i))
 
-pub own_either : (n k : ℕ) (again : Bool) (b : Book) (o p : Order) → Distinct stamp_of b → find n b ≡ Some o → Under stamp_of k b → p.stamp ≡ cond again k o.stamp → p.number ≡ o.number → OwnStamp p b
-own_either n k true b o p d e u s m = own_fresh b p (under_more stamp_of k p.stamp b (omega arith) u)
-own_either n k false b o p d e u s m = own_same n b o p d e s m
+pub own_either : (n : ℕ) (fresh : Option ℕ) (b : Book) (o p : Order) → Distinct stamp_of b → find n b ≡ Some o → IfSome fresh (λ k. Under stamp_of k b) → p.stamp ≡ unwrap_or fresh o.stamp → p.number ≡ o.number → OwnStamp p b
+own_either n None b o p d e u s m = own_same n b o p d e s m
+own_either n (Some k) b o p d e u s m = own_fresh b p (under_more stamp_of k p.stamp b (omega arith) u)
+
+-- ---- the next stamp if a new one is asked for
+pub fresh_under : (s : ℕ) (again : Bool) (b : Book) → Under stamp_of (s + 1) b → IfSome (then_some again (s + 1)) (λ k. Under stamp_of k b)
+fresh_under s true b u = u
+fresh_under s false b u = tt
+
+pub fresh_amends : (s q p : ℕ) (t : Term) (again : Bool) → amended q p t (is_some (then_some again (s + 1))) (unwrap_or (then_some again (s + 1)) 0) ≡ amended q p t again (s + 1)
+fresh_amends s q p t true = refl
+fresh_amends s q p t false = refl
+
+pub fresh_stamp : (s k : ℕ) (again : Bool) → unwrap_or (then_some again k) s ≡ cond again k s
+fresh_stamp s k true = refl
+fresh_stamp s k false = refl
+
+pub stamp_or : (fresh : Option ℕ) (s : ℕ) → unwrap_or fresh s ≡ cond (is_some fresh) (unwrap_or fresh 0) s
+stamp_or None s = refl
+stamp_or (Some k) s = refl
 
 -- the last stamp given, after an amendment
 pub next_stamp : (s k : ℕ) (again : Bool) → k ≡ cond again (s + 1) s → (again ≡ true → s < 1000000) → s ≤ 1000000 → (s ≤ k) × (k ≤ 1000000)

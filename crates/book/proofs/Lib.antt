@@ -3,3 +3,4 @@ pub mod Cursor
 pub mod Marks
 pub mod Slots
 pub mod Tables
+pub mod Writes

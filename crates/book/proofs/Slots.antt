@@ -1,10 +1,13 @@
 -- The book of the places.
-use Rattle.std.proofs.Common.{◌≡◌, ℕ, zero, suc, ◌+◌, ◌-◌, ◌<◌, ◌≤◌, Bool, true, false, cond, not, eqb, ltb, ◌≢◌, List, [], ◌∷◌, ◌++◌, length, drop, set, replicate, is_some, Some, None, filter, Option, sym, refl, ap, ◌∙◌, subst, inl, inr, arith, MatchOption}
-use Rattle.std.proofs.lemmas.List.{set-get_or, get_or-set_same, get_or-set_other, length-set, at_drop_more, at_drop_all}
+use Rattle.std.proofs.Common.{◌≡◌, ℕ, zero, suc, ◌+◌, ◌-◌, ◌<◌, ◌≤◌, Bool, true, false, cond, not, eqb, ltb, ◌≢◌, List, [], ◌∷◌, ◌++◌, length, get_or, set, replicate, is_some, Some, None, filter, Option, sym, refl, ap, ◌∙◌, subst, inl, inr, arith, MatchOption}
+use Rattle.std.proofs.lemmas.List.{set-get_or, get_or-set_same, get_or-set_other, length-set}
 use Rattle.std.proofs.ByRecursion.{All-weaker}
 use Rattle.std.proofs.lemmas.Bool.{cond-true, cond-false, lt-ltb, le-ltb, ltb-false, eq-eqb, ne_eqb, cases_lt, cases_order, cases_eq, false≢true, true≢false, eqb-true, eqb-false, and_parts, and_from, not_from_true, not_from_false}
+use Rattle.std.proofs.lemmas.List.Recursion.{is_count_by}
+use Rattle.std.proofs.lemmas.List.Quantifiers.{position-Some}
+use Rattle.std.proofs.lemmas.List.Sums.{fails_before_first}
 use Rattle.std.specs.Option.{option_map}
-use Rattle.std.specs.List.{AllByRecursion as EveryOne}
+use Rattle.std.specs.List.{AllByRecursion as EveryOne, position, position_or_len, count_by}
 use Rattle.orders.specs.declared.order.Order.{Order}
 use Rattle.orders.specs.Orders.{Valid, in_bounds}
 use Rattle.orders.specs.Search.{In, First}
@@ -307,21 +310,40 @@ less_left None o q e h = absurd h
 less_left (Some p) o q e h = let same : p ≡ o = cc in subst (λ x. q < x.left) same h
 
 -- ---- no orders
-free_at : (n i : ℕ) → at (replicate n None) i ≡ None
-free_at zero i = refl
-free_at (suc n) zero = refl
-free_at (suc n) (suc i) = free_at n i
+all_free : (n i : ℕ) → at (replicate n None) i ≡ None
+all_free zero i = refl
+all_free (suc n) zero = refl
+all_free (suc n) (suc i) = all_free n i
 
 pub empty_apart : (key : Order → ℕ) (n : ℕ) → Apart key (replicate n None)
-empty_apart key n i j h = absurd (rw (free_at n i) at h)
+empty_apart key n i j h = absurd (rw (all_free n i) at h)
 
 -- ---- the search by number
 pub holds_some : (n : ℕ) (s : Option Order) → holds n s ≡ true → (o : Order) × (s ≡ Some o) × (o.number ≡ n)
 holds_some n None h = absurd (false≢true h)
 holds_some n (Some o) h = (o, refl, eqb-true _ _ h)
 
-pub missing_book : (ss : Slots) (n : ℕ) → ((k : ℕ) → k < length ss → holds n (at ss k) ≡ false) → Missing n (book ss)
-missing_book ss n u = in_all (λ o. o.number ≡ n → ⊥) (book ss) (λ o i e. let r = in_book ss o i in eqb-false _ _ (rw r.2 at (u r.0 r.1)) e)
+-- where no slot passes a test, each fails it
+none_passes : {X : Type 0} (p : X → Bool) (xs : List X) (d : X) → position p xs ≡ None → (k : ℕ) → k < length xs → p (get_or xs k d) ≡ false
+none_passes p xs d e k h =
+    elim (cases_lt (position_or_len p xs) (length xs)) [
+      | inl l ↦ some_none _ (sym (cond-true _ (Some (position_or_len p xs)) None (lt-ltb _ _ l)) ∙ e)
+      | inr l ↦ fails_before_first p xs k d (omega arith)
+    ]
+
+pub missing_book : (ss : Slots) (n : ℕ) → position (holds n) ss ≡ None → Missing n (book ss)
+missing_book ss n e = in_all (λ o. o.number ≡ n → ⊥) (book ss) (λ o i q. let r = in_book ss o i in eqb-false _ _ (rw r.2 at (none_passes (holds n) ss None e r.0 r.1)) q)
+
+-- the order at the place that the search by number gives
+pub held_at : (ss : Slots) (n i : ℕ) → position (holds n) ss ≡ Some i → (o : Order) × (i < length ss) × (at ss i ≡ Some o) × (o.number ≡ n)
+held_at ss n i e = let f = position-Some (holds n) ss i None e in let r = holds_some n (at ss i) f.1 in (r.0, f.0, r.1, r.2)
+
+pub free_at : (ss : Slots) (i : ℕ) → position (λ s. not (is_some s)) ss ≡ Some i → (i < length ss) × (at ss i ≡ None)
+free_at ss i e = let f = position-Some (λ s. not (is_some s)) ss i None e in (f.0, empty (at ss i) (f.1))
+  where
+    empty : (s : Option Order) → not (is_some s) ≡ true → s ≡ None
+    empty None h = refl
+    empty (Some o) h = absurd (false≢true h)
 
 -- ---- how many there are
 length_insert : (o : Order) (ps : Book) → length (insert o ps) ≡ suc (length ps)
@@ -340,31 +362,20 @@ pub book_short : (ss : Slots) → length (book ss) ≤ length ss
 book_short [] = omega arith
 book_short (s ∷ ss) = omega (arith, length_slot s (book ss), book_short ss)
 
-pub book_full : (ss : Slots) → ((k : ℕ) → k < length ss → at ss k ≡ None → ⊥) → length (book ss) ≡ length ss
-book_full [] u = refl
-book_full (None ∷ ss) u = absurd (u 0 (omega arith) refl)
-book_full (Some o ∷ ss) u = length_insert o (book ss) ∙ ap suc (book_full ss (λ k h. u (suc k) (omega arith)))
-
--- one place more of those counted
-count_slot : (ss : Slots) (i : ℕ) (s : Option Order) → i < length ss → at ss i ≡ s → length (book (drop i ss)) ≡ length (insert_slot s (book (drop (i + 1) ss)))
-count_slot ss i s h e = at_drop_more (λ l. length (book l)) ss i None h ∙ ap (λ s. length (insert_slot s (book (drop (i + 1) ss)))) e
-
-pub count_taken : (ss : Slots) (i : ℕ) → i < length ss → is_some (at ss i) ≡ true → length (book (drop i ss)) ≡ suc (length (book (drop (i + 1) ss)))
-count_taken ss i h t = go (at ss i) refl t
+pub book_length : (ss : Slots) → length (book ss) ≡ count_by is_some ss
+book_length = is_count_by (λ ss. length (book ss)) is_some refl step
   where
-    go : (s : Option Order) → at ss i ≡ s → is_some s ≡ true → length (book (drop i ss)) ≡ suc (length (book (drop (i + 1) ss)))
-    go None e t = absurd (false≢true t)
-    go (Some o) e t = count_slot ss i (Some o) h e ∙ length_insert o (book (drop (i + 1) ss))
+    step : (s : Option Order) (ss : Slots) → length (book (s ∷ ss)) ≡ cond (is_some s) (1 + length (book ss)) (length (book ss))
+    step None ss = refl
+    step (Some o) ss = omega (arith, length_insert o (book ss))
 
-pub count_free : (ss : Slots) (i : ℕ) → i < length ss → is_some (at ss i) ≡ false → length (book (drop i ss)) ≡ length (book (drop (i + 1) ss))
-count_free ss i h t = go (at ss i) refl t
+pub book_full : (ss : Slots) → position (λ s. not (is_some s)) ss ≡ None → length (book ss) ≡ length ss
+book_full ss e = go ss (none_passes (λ s. not (is_some s)) ss None e)
   where
-    go : (s : Option Order) → at ss i ≡ s → is_some s ≡ false → length (book (drop i ss)) ≡ length (book (drop (i + 1) ss))
-    go None e t = count_slot ss i None h e
-    go (Some o) e t = absurd (true≢false t)
-
-pub count_end : (ss : Slots) (i : ℕ) → length ss ≤ i → length (book (drop i ss)) ≡ 0
-count_end ss i h = at_drop_all (λ l. length (book l)) ss i h
+    go : (ss : Slots) → ((k : ℕ) → k < length ss → not (is_some (at ss k)) ≡ false) → length (book ss) ≡ length ss
+    go [] u = refl
+    go (None ∷ ss) u = absurd (true≢false (u 0 (omega arith)))
+    go (Some o ∷ ss) u = length_insert o (book ss) ∙ ap suc (go ss (λ k h. u (suc k) (omega arith)))
 
 -- ---- the order of the lowest number
 none_in : {X : Type 0} (xs : List X) → ((x : X) → In x xs → ⊥) → xs ≡ []
@@ -437,12 +448,6 @@ book_sound ss a s h = record { ascending = book_ascends ss a; valid = book_valid
 -- the order at a place is the one found under its number
 pub find_at : (ss : Slots) (i : ℕ) (o : Order) → at ss i ≡ Some o → Apart number_of ss → find o.number (book ss) ≡ Some o
 find_at ss i o e a = in_found (book ss) (book_distinct number_of ss a) o (book_in ss i o e)
-
-pub find_held : (ss : Slots) (n i : ℕ) → holds n (at ss i) ≡ true → Apart number_of ss → find n (book ss) ≡ at ss i
-find_held ss n i h a =
-    let r = holds_some n (at ss i) h in
-    let f = find_at ss i r.0 r.1 a in
-    let g = r.1 in let k = r.2 in cc
 
 pub found_bounds : (ss : Slots) (n : ℕ) (o : Order) → all_bounded ss ≡ true → find n (book ss) ≡ Some o → in_bounds o ≡ true
 found_bounds ss n o h e = valid_bounds o (found_all Valid n (book ss) o (book_valid ss h) e)

@@ -7,14 +7,14 @@ use Rattle.orders.specs.declared.order.Order.{Order}
 use Rattle.book.specs.declared.table.Table.{Table}
 use Rattle.orders.specs.Rank.{first_by}
 use Rattle.orders.specs.Search.{In, First, passing}
-use Rattle.orders.specs.Book.{number_of, stamp_of, find}
+use Rattle.orders.specs.Book.{number_of, stamp_of}
 use Rattle.orders.specs.Laws.{Distinct}
 use Rattle.book.specs.Table.{book_of, at_place, TablesSound, TablesAlike}
 use Rattle.orders.specs.Lists.{in_kept, kept_in, passing_some}
 use Rattle.orders.specs.Firsts.{searched}
 use Rattle.orders.specs.Ranks.{Ties}
 use Rattle.orders.specs.Ranking.{one_of}
-use Rattle.book.proofs.Slots.{book_in, in_book, book_short, book_sound, book_distinct, find_at, places_free}
+use Rattle.book.proofs.Slots.{book_in, in_book, book_short, book_sound, book_distinct, places_free}
 
 pub sound_table : TablesSound
 sound_table t = book_sound t.places.slots t.places.numbers t.places.stamps t.places.valid
@@ -34,9 +34,6 @@ place_in t i o e = book_in t.places.slots i o e
 
 pub in_place : (t : Table) (o : Order) → In o (book_of t) → (i : ℕ) × (i < 256) × (at_place t i ≡ Some o)
 in_place t o h = let r = in_book t.places.slots o h in (r.0, omega (arith, r.1, t.places.long), r.2)
-
-pub find_place : (t : Table) (i : ℕ) (o : Order) → at_place t i ≡ Some o → find o.number (book_of t) ≡ Some o
-find_place t i o e = find_at t.places.slots i o e t.places.numbers
 
 -- orders of the book that tie by rank are one
 pub table_ties : {before : Order → Order → Bool} → Ties before → (t : Table) (x y : Order) → In x (book_of t) → In y (book_of t) → before x y ≡ false → before y x ≡ false → x ≡ y

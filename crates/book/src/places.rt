@@ -4,13 +4,12 @@ ghost use Rattle.orders.specs.Book.{number_of, stamp_of};
 ghost use Rattle.book.specs.Places.{Apart, all_bounded};
 
 use orders::order::Order;
+use orders::strip::PLACES;
 
-pub mod amends;
+mod amends;
 mod lowest;
 mod reads;
 mod writes;
-
-pub const PLACES: usize = 256;
 
 // Each place is free or holds a live order: numbers and stamps differ, and every order is within its bounds.
 #[derive(Drop)]

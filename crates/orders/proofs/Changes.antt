@@ -36,6 +36,15 @@ reduced_missing n q [] h = refl
 reduced_missing n q (o ∷ os) h =
     cond-false (eqb o.number n) (if_left (lowered q o) os) (o ∷ reduced n q os) (ne_eqb _ _ h.0) ∙ ap (λ l. o ∷ l) (reduced_missing n q os h.1)
 
+pub changed_none : (n : ℕ) (f : Order → Order) (b : Book) → find n b ≡ None → changed n f b ≡ b
+changed_none n f b e = changed_missing n f b (find_missing n b e)
+
+pub without_none : (n : ℕ) (b : Book) → find n b ≡ None → without n b ≡ b
+without_none n b e = without_missing n b (find_missing n b e)
+
+pub reduced_none : (n q : ℕ) (b : Book) → find n b ≡ None → reduced n q b ≡ b
+reduced_none n q b e = reduced_missing n q b (find_missing n b e)
+
 -- ---- the order of the number n
 -- what holds of each order holds of the one found
 pub found_all : (P : Order → Type 0) (n : ℕ) (b : Book) (o : Order) → EveryOne P b → find n b ≡ Some o → P o

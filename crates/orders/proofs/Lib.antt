@@ -1,4 +1,5 @@
 pub mod Changes
+pub mod Comparisons
 pub mod Reductions
 pub mod Strips
 pub mod Tapes

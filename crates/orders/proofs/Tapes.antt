@@ -1,12 +1,9 @@
 -- Trades written one by one stand on the tape in a row.
-use Rattle.std.proofs.Common.{◌≡◌, ℕ, suc, ◌+◌, ◌≤◌, List, [], ◌∷◌, ◌++◌, length, take, drop, set, sym, refl, ap, ◌∙◌, append_assoc, arith}
-use Rattle.std.proofs.lemmas.List.{take-append-drop, take_more_set, take_at, drop-set-lt, drop_at, length-set, length-append, length-take-le}
+use Rattle.std.proofs.Common.{◌≡◌, ℕ, suc, ◌+◌, ◌-◌, ◌≤◌, List, [], ◌∷◌, ◌++◌, length, take, drop, set, sym, refl, ap, ◌∙◌, append_assoc, append-nil, arith}
+use Rattle.std.proofs.lemmas.List.{take-append-drop, take_all, drop_all, drop-drop, length-drop, take_more_set, drop-set-lt, drop_at, length-set, length-append, length-take-le}
+use borrow.Rule.Slice.PartMut.{put_mid}
 use Rattle.orders.specs.declared.order.Trade.{Trade}
 use Rattle.orders.specs.Tape.{written, recorded}
-
--- what stands for a record where there is none
-abbrev pub no_trade : Trade
-no_trade = record { issue = 0; buy = 0; sell = 0; buyer = 0; seller = 0; quantity = 0; price = 0 }
 
 pub length_written : (u : ℕ) (ts tape : List Trade) → length (written u ts tape) ≡ length tape
 length_written u [] tape = refl
@@ -40,17 +37,17 @@ module _ (u : ℕ) (ts tape : List Trade) (h : u + length ts ≤ length tape) wh
   both : length (take u tape ++ ts) ≡ u + length ts
   both = let e = length-append (take u tape) ts in let f = front in omega arith
 
-  -- the records up to the last one written
-  pub take_recorded : take (u + length ts) (recorded u ts tape) ≡ take u tape ++ ts
-  take_recorded =
-      ap (take (u + length ts)) (sym (append_assoc (take u tape) ts (drop (u + length ts) tape))) ∙ take_at (take u tape ++ ts) (drop (u + length ts) tape) (u + length ts) both
-
-  -- and those behind it
+  -- the records behind those written
   pub drop_recorded : drop (u + length ts) (recorded u ts tape) ≡ drop (u + length ts) tape
   drop_recorded =
       ap (drop (u + length ts)) (sym (append_assoc (take u tape) ts (drop (u + length ts) tape))) ∙ drop_at (take u tape ++ ts) (drop (u + length ts) tape) (u + length ts) both
 
-  -- the trades alone
-  pub part_recorded : take (length ts) (drop u (recorded u ts tape)) ≡ ts
-  part_recorded =
-      ap (take (length ts)) (drop_at (take u tape) (ts ++ drop (u + length ts) tape) u front) ∙ take_at ts (drop (u + length ts) tape) (length ts) refl
+-- trades recorded at the start of the part of a tape from u on are recorded from u on
+pub recorded_part : (u k : ℕ) (ts tape part : List Trade) → k ≡ length tape - u → part ≡ recorded 0 ts (take k (drop u tape)) → put_mid u k tape part ≡ recorded u ts tape
+recorded_part u k ts tape part all e =
+    let held = length-drop u tape in
+    let whole : take k (drop u tape) ≡ drop u tape = take_all k (drop u tape) (omega arith) in
+    let none : drop k (drop u tape) ≡ [] = drop_all k (drop u tape) (omega arith) in
+    let behind : drop (0 + length ts) (drop u tape) ≡ drop (u + length ts) tape = drop-drop (0 + length ts) u tape ∙ ap (λ n. drop n tape) (let z : u + (0 + length ts) ≡ u + length ts = omega arith in z) in
+    ap (λ l. take u tape ++ (part ++ l)) none
+    ∙ ap (λ l. take u tape ++ l) (append-nil part ∙ e ∙ ap (recorded 0 ts) whole ∙ ap (λ l. ts ++ l) behind)

@@ -1,7 +1,8 @@
 -- Members of a list, and those that pass a test.
-use Rattle.std.specs.Prelude.{◌≡◌, ℕ, suc, ◌≤◌, Bool, true, false, cond, ◌&&◌, ◌⊎◌, List, [], ◌∷◌, ◌++◌, length, Some, None, filter, Option, refl}
+use Rattle.std.specs.Prelude.{◌≡◌, ℕ, ◌≤◌, Bool, true, false, cond, ◌&&◌, ◌⊎◌, List, [], ◌∷◌, ◌++◌, length, Some, None, filter, Option, refl}
 use Rattle.std.proofs.Common.{sym, ◌∙◌, ap, subst, inl, inr, arith}
 use Rattle.std.proofs.lemmas.Bool.{cond-true, cond-false, cond_both, cases_Bool, both_ways}
+use Rattle.std.proofs.lemmas.List.Sums.{length-filter, count_by-le-length}
 use Rattle.std.specs.List.{AllByRecursion as EveryOne}
 use Rattle.orders.specs.Search.{In, passing}
 
@@ -74,10 +75,7 @@ module _ {X : Type 0} where
       ]
 
   pub length_kept : (p : X → Bool) (xs : List X) → length (filter p xs) ≤ length xs
-  length_kept p [] = omega arith
-  length_kept p (x ∷ xs) =
-      let ih = length_kept p xs in
-      cond_both (p x) (x ∷ filter p xs) (filter p xs) (λ l. length l ≤ suc (length xs)) (λ _. omega arith) (λ _. omega arith)
+  length_kept p xs = omega (arith, length-filter p xs, count_by-le-length p xs)
 
   pub passing_some : (p : X → Bool) (s : Option X) (x : X) → passing p s ≡ Some x → (s ≡ Some x) × (p x ≡ true)
   passing_some p None x e = none_some x e

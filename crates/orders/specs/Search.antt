@@ -1,5 +1,5 @@
 -- The first by rank among places.
-use Rattle.std.specs.Prelude.{◌≡◌, ℕ, ◌<◌, Bool, true, false, cond, ◌&&◌, ◌⊎◌, List, [], ◌∷◌, Some, None, Option, MatchOption}
+use Rattle.std.specs.Prelude.{◌≡◌, ℕ, ◌<◌, Bool, true, false, cond, ◌⊎◌, List, [], ◌∷◌, Some, None, Option, MatchOption}
 
 -- x is one of the list
 abbrev pub In : {X : Type 0} → X → List X → Type 0
@@ -29,11 +29,3 @@ chosen before best i x = cond (leads before best x) (Some (i, x)) best
 abbrev pub passing : {X : Type 0} → (X → Bool) → Option X → Option X
 passing p None = None
 passing p (Some x) = cond (p x) (Some x) None
-
--- an entry that passes a test and comes after the cursor, if there is one
-abbrev pub past : {X : Type 0} → (X → X → Bool) → Option X → X → Bool
-past before None x = true
-past before (Some c) x = before c x
-
-abbrev pub later_than : {X : Type 0} → (X → X → Bool) → (X → Bool) → Option X → X → Bool
-later_than before p cursor x = past before cursor x && p x

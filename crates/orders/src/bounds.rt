@@ -15,22 +15,21 @@ const MOST_SHARES: u64 = 100_000_000;
 pub fn price_breaks(price: u64) -> bool
     ensures { result ≡ breaks_price price }
 {
-    price < LOWEST_PRICE || price > HIGHEST_PRICE || price % PRICE_STEP != 0
+    !(LOWEST_PRICE..=HIGHEST_PRICE).contains(&price) || price % PRICE_STEP != 0
 }
 
 pub fn quantity_breaks(quantity: u64) -> bool
     ensures { result ≡ breaks_quantity quantity }
 {
-    quantity < 1 || quantity > MOST_SHARES
+    !(1..=MOST_SHARES).contains(&quantity)
 }
 
 pub fn least_breaks(term: Term, quantity: u64) -> bool
     ensures { result ≡ breaks_least term quantity }
 {
     match term {
-        Term::Plain => false,
-        Term::All => false,
-        Term::Least(m) => m == 0 || m > quantity,
+        Term::Plain | Term::All => false,
+        Term::Least(m) => !(1..=quantity).contains(&m),
     }
 }
 

@@ -1,13 +1,13 @@
 // The words of the market: orders, trades and calls.
 
-#[derive(Clone, Copy)]
+#[derive(Clone, Copy, PartialEq, Eq, PartialOrd, Ord, Debug)]
 pub enum Side {
     Buy,
     Sell,
 }
 
 // Plain, or special: all (all-or-none) or least m (minimum fill).
-#[derive(Clone, Copy)]
+#[derive(Clone, Copy, PartialEq, Eq, Debug)]
 pub enum Term {
     Plain,
     All,
@@ -15,21 +15,21 @@ pub enum Term {
 }
 
 // How long the rest of an entry waits: until it trades or the market closes, or not at all.
-#[derive(Clone, Copy)]
+#[derive(Clone, Copy, PartialEq, Eq, Debug)]
 pub enum Life {
     Day,
     Now,
 }
 
-// A limit, or the price of the best order opposite.
-#[derive(Clone, Copy)]
+// A limit, or the price of the best order opposite. Not an Option: absent would not say that the order takes any price.
+#[derive(Clone, Copy, PartialEq, Eq, Debug)]
 pub enum Price {
     Limit(u64),
     Market,
 }
 
 // A live order.
-#[derive(Clone, Copy)]
+#[derive(Clone, Copy, PartialEq, Eq, Debug)]
 pub struct Order {
     pub number: u64,
     pub account: u64,
@@ -42,7 +42,7 @@ pub struct Order {
     pub working: bool,
 }
 
-#[derive(Clone, Copy)]
+#[derive(Clone, Copy, Default, PartialEq, Eq, Debug)]
 pub struct Trade {
     pub issue: u64,
     pub buy: u64,
@@ -54,7 +54,7 @@ pub struct Trade {
 }
 
 // What an entry asks for.
-#[derive(Clone, Copy)]
+#[derive(Clone, Copy, PartialEq, Eq, Debug)]
 pub struct Entry {
     pub account: u64,
     pub issue: u64,
@@ -65,7 +65,7 @@ pub struct Entry {
     pub life: Life,
 }
 
-#[derive(Clone, Copy)]
+#[derive(Clone, Copy, PartialEq, Eq, Debug)]
 pub enum Call {
     Enter(Entry),
     Amend {

@@ -9,29 +9,20 @@ use crate::order::{Order, Side};
 use crate::ranked::Ranked;
 use crate::sides::is_special;
 
-// x ranks before y: on one side by price, plain before special, then stamp; buys before sells.
+// x ranks before y: buys before sells, on one side the better price, then plain before special, then the earlier stamp.
 pub fn ranks_before(x: &Order, y: &Order) -> bool
     ensures { result ≡ ahead x.now y.now }
 {
-    match (x.side, y.side) {
-        (Side::Buy, Side::Sell) => return true,
-        (Side::Sell, Side::Buy) => return false,
-        (Side::Buy, Side::Buy) => {
-            if x.price != y.price {
-                return x.price > y.price;
-            }
-        }
-        (Side::Sell, Side::Sell) => {
-            if x.price != y.price {
-                return x.price < y.price;
-            }
-        }
-    }
-    let last = is_special(x.term);
-    if last != is_special(y.term) {
-        return !last;
-    }
-    x.stamp < y.stamp
+    let by_price = match x.side {
+        Side::Buy => y.price.cmp(&x.price),
+        Side::Sell => x.price.cmp(&y.price),
+    };
+    x.side
+        .cmp(&y.side)
+        .then(by_price)
+        .then(is_special(x.term).cmp(&is_special(y.term)))
+        .then(x.stamp.cmp(&y.stamp))
+        .is_lt()
 }
 
 pub fn is_earlier(x: &Order, y: &Order) -> bool
@@ -51,7 +42,7 @@ impl Ranked for Order {
 }
 
 // An order that ranks by its stamp alone.
-#[derive(Clone, Copy)]
+#[derive(Clone, Copy, PartialEq, Eq, Debug)]
 pub struct Stamped {
     pub order: Order,
 }

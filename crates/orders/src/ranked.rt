@@ -1,8 +1,8 @@
 // The first entry by rank, of any kind of entry that has one: the one way in which orders and candidates are found.
 ghost use Rattle.std.specs.Prelude.{◌≡◌, ℕ, ◌<◌, Bool, Option, nat_lt};
 ghost use Rattle.std.specs.Cmp.{IsStrictWeakOrder};
-ghost use Rattle.orders.specs.Search.{First, leads, chosen};
-ghost use Rattle.std.proofs.Common.{rules};
+ghost use Rattle.orders.specs.Search.{First, chosen};
+ghost use Rattle.std.proofs.lemmas.List.MinMax.{IsStrictWeakOrder-by_number};
 
 // What has a rank: `before x y` says that x comes before y.
 pub trait Ranked {
@@ -18,58 +18,36 @@ pub trait Ranked {
 impl Ranked for u64 {
     ghost before = { nat_lt };
 
-    ghost ranks = { Prim.search rules };
+    ghost ranks = { IsStrictWeakOrder-by_number (λ (n : ℕ). n) };
 
     fn precedes(&self, other: &u64) -> bool {
         *self < *other
     }
 }
 
-// The entries that may be chosen: one or none at each place below `count`.
-pub trait Entries {
-    type Entry: Ranked + Copy;
-
-    ghost count: { Self → ℕ };
-
-    ghost candidate: { Self → ℕ → Option Self.Entry };
-
-    fn places(&self) -> usize
-        ensures { result ≡ count self.now };
-
-    fn look(&self, place: usize) -> Option<Self::Entry>
-        requires { place < count self.now }
-        ensures { result ≡ candidate self.now place };
-}
-
-// No entry so far, or x comes before the best of them.
-fn comes_first<T: Ranked + Copy>(best: &Option<(usize, T)>, x: &T) -> bool
-    ensures { result ≡ leads T.before best.now x.now }
-{
-    match best {
-        None => true,
-        Some((_, y)) => x.precedes(y),
-    }
-}
-
-// The best so far gives way to the entry x at this place if x comes before it.
+// The best so far gives way to the entry x at this place if there is none yet or x comes before it.
 fn choose<T: Ranked + Copy>(best: &mut Option<(usize, T)>, place: usize, x: T)
     ensures { best.new ≡ chosen T.before best.old place x }
 {
-    if comes_first(best, &x) {
+    if best.is_none_or(|(_, y)| x.precedes(&y)) {
         *best = Some((place, x));
     }
 }
 
-// The first entry by rank, with its place.
-pub fn first<E: Entries>(entries: &E) -> Option<(usize, E::Entry)>
-    ensures { First E.Entry.Ranked.before (E.candidate entries.now) (E.count entries.now) result }
+// The first entry by rank, with its place, of those that `look` finds at the places below `places`: one or none at each.
+// A loop: as a chain of filter_map and reduce it was tried, and two goals stayed open, that `look` may be called at each turn and what comes out,
+// since `look` is known at the places below `places` alone.
+pub fn first<T: Ranked + Copy, F: Fn(usize) -> Option<T>>(
+    places: usize,
+    look: F,
+) -> Option<(usize, T)>
+    requires { (i : ℕ) → i < places → F.pre look i }
+    ensures { (at : ℕ → Option T) → ((i : ℕ) (r : Option T) → i < places → F.post look i r → r ≡ at i) → First T.Ranked.before at places result }
 {
-    let n = entries.places();
-    let mut best: Option<(usize, E::Entry)> = None;
-    for i in 0..n {
-        match entries.look(i) {
-            Some(x) => choose(&mut best, i, x),
-            None => {}
+    let mut best = None;
+    for place in 0..places {
+        if let Some(x) = look(place) {
+            choose(&mut best, place, x);
         }
     }
     best

@@ -1,19 +1,8 @@
 // Tests of sides, limits and terms.
 ghost use Rattle.std.specs.Prelude.{◌≡◌};
-ghost use Rattle.orders.specs.Orders.{opposed, within, special, working_in, plain_in, working_opposite};
+ghost use Rattle.orders.specs.Orders.{within, special, working_in, plain_in, working_opposite};
 
 use crate::order::{Order, Side, Term};
-
-pub fn are_opposed(a: Side, b: Side) -> bool
-    ensures { result ≡ opposed a b }
-{
-    match (a, b) {
-        (Side::Buy, Side::Buy) => false,
-        (Side::Buy, Side::Sell) => true,
-        (Side::Sell, Side::Buy) => true,
-        (Side::Sell, Side::Sell) => false,
-    }
-}
 
 // The price is within the limit of an order on this side.
 pub fn is_within(side: Side, limit: u64, price: u64) -> bool
@@ -28,18 +17,14 @@ pub fn is_within(side: Side, limit: u64, price: u64) -> bool
 pub fn is_special(term: Term) -> bool
     ensures { result ≡ special term }
 {
-    match term {
-        Term::Plain => false,
-        Term::All => true,
-        Term::Least(_) => true,
-    }
+    term != Term::Plain
 }
 
 // A working order of the issue on the side.
 pub fn is_working_in(o: &Order, issue: u64, side: Side) -> bool
     ensures { result ≡ working_in issue side o.now }
 {
-    o.issue == issue && !are_opposed(side, o.side) && o.working
+    o.issue == issue && o.side == side && o.working
 }
 
 // A working plain order of the issue on the side.
@@ -53,5 +38,5 @@ pub fn is_plain_in(o: &Order, issue: u64, side: Side) -> bool
 pub fn is_working_opposite(o: &Order, issue: u64, side: Side) -> bool
     ensures { result ≡ working_opposite issue side o.now }
 {
-    o.issue == issue && are_opposed(side, o.side) && o.working
+    o.issue == issue && o.side != side && o.working
 }

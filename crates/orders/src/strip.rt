@@ -1,22 +1,23 @@
 // A guard over the caller's strip: when it goes, every byte of the strip is zero.
-ghost use Rattle.std.specs.Prelude.{◌≡◌, ◌<◌, length, slice_set};
+ghost use Rattle.std.specs.Prelude.{◌≡◌, ◌<◌, ◌==◌, length, slice_set};
+ghost use Rattle.std.specs.List.{list_all};
 ghost use Rattle.orders.specs.Strip.{Zeros, clean};
 
-pub const STRIP: usize = 256;
+// The most orders that are live at a time: so many places has the table, and so many bytes the strip.
+// Clauses say 256 in digits, so that they bind this number too.
+pub const PLACES: usize = 256;
+
+fn are_zeros(strip: &[u8]) -> bool
+    ensures { result ≡ list_all (λ x. x == 0) strip.now }
+{
+    strip.iter().all(|b| *b == 0)
+}
 
 // The strip is 256 zero bytes.
 pub fn is_clean(strip: &[u8]) -> bool
     ensures { result ≡ clean strip.now }
 {
-    if strip.len() != STRIP {
-        return false;
-    }
-    for b in strip {
-        if *b != 0 {
-            return false;
-        }
-    }
-    true
+    strip.len() == PLACES && are_zeros(strip)
 }
 
 pub struct Marks<'a>(pub &'a mut [u8]);

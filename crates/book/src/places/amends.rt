@@ -1,5 +1,5 @@
 // One live order changed in its place.
-ghost use Rattle.std.specs.Prelude.{◌≡◌, true, false, if◌then◌else◌};
+ghost use Rattle.std.specs.Prelude.{◌≡◌, true, false, is_some, unwrap_or, IfSome};
 ghost use Rattle.orders.specs.Orders.{breaks_price, breaks_quantity, breaks_least};
 ghost use Rattle.orders.specs.Book.{stamp_of, changed, amended, suspended, resumed};
 ghost use Rattle.book.specs.Places.{book, Under};
@@ -7,13 +7,7 @@ ghost use Rattle.book.specs.Places.{book, Under};
 use super::Places;
 use orders::order::{Order, Term};
 
-// The next stamp if a new one is asked for.
-pub fn stamp_for(again: bool, next: u64, stamp: u64) -> u64
-    ensures { result ≡ (if again then next else stamp) }
-{
-    if again { next } else { stamp }
-}
-
+// Each writes the order whole: a closure that changes it would owe its number, its bounds and its stamp in as many clauses again.
 impl Places {
     // Takes an order out of work.
     pub fn suspend(&mut self, number: u64)
@@ -41,26 +35,18 @@ impl Places {
         }
     }
 
-    // Sets quantity left, price and term of an order, and its stamp if that is asked for.
-    pub fn amend(
-        &mut self,
-        number: u64,
-        quantity: u64,
-        price: u64,
-        term: Term,
-        again: bool,
-        stamp: u64,
-    )
+    // Sets quantity left, price and term of an order, and its stamp if there is a new one.
+    pub fn amend(&mut self, number: u64, quantity: u64, price: u64, term: Term, fresh: Option<u64>)
         requires bounds { (breaks_price price ≡ false) × ((breaks_quantity quantity ≡ false) × (breaks_least term quantity ≡ false)) }
-        requires stamp { Under stamp_of stamp (book self.old.slots) }
-        ensures { book self.new.slots ≡ changed number (amended quantity price term again stamp) (book self.old.slots) }
+        requires stamp { IfSome fresh (λ k. Under stamp_of k (book self.old.slots)) }
+        ensures { book self.new.slots ≡ changed number (amended quantity price term (is_some fresh) (unwrap_or fresh 0)) (book self.old.slots) }
     {
         if let Some(o) = self.order(number) {
             self.replace(Order {
                 price,
                 left: quantity,
                 term,
-                stamp: stamp_for(again, stamp, o.stamp),
+                stamp: fresh.unwrap_or(o.stamp),
                 ..o
             });
         }

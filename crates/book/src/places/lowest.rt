@@ -1,51 +1,30 @@
 // The order of the lowest number, found as the first by rank of the numbers.
-ghost use Rattle.std.specs.Prelude.{◌≡◌, ◌<◌, [], ◌∷◌, IfNone, Some, None, MatchOption, slice_set};
+ghost use Rattle.std.specs.Prelude.{◌≡◌, ◌<◌, [], ◌∷◌, nat_lt, IfNone, Some, None, MatchOption, slice_set};
 ghost use Rattle.std.specs.Option.{option_map};
+ghost use Rattle.orders.specs.Search.{First};
 ghost use Rattle.orders.specs.Book.{number_of, first_then};
 ghost use Rattle.book.specs.Places.{at, book};
 
-use super::{PLACES, Places};
+use super::Places;
 use orders::order::Order;
-use orders::ranked::{Entries, first};
-
-// The numbers of the orders at the places.
-#[derive(Drop)]
-struct Numbers<'p> {
-    places: &'p Places,
-}
-
-impl Entries for Numbers<'_> {
-    type Entry = u64;
-
-    ghost count = { λ _. 256 };
-
-    ghost candidate = { λ e i. option_map number_of (at e.places.now.slots i) };
-
-    fn places(&self) -> usize {
-        PLACES
-    }
-
-    fn look(&self, place: usize) -> Option<u64> {
-        match self.places.get(place) {
-            Some(o) => Some(o.number),
-            None => None,
-        }
-    }
-}
+use orders::ranked::first;
+use orders::strip::PLACES;
 
 impl Places {
+    // The lowest number, with the place of its order.
+    fn lowest_number(&self) -> Option<(usize, u64)>
+        ensures { First nat_lt (λ i. option_map number_of (at self.now.slots i)) 256 result }
+    {
+        first(PLACES, |i| self.get(i).map(|o| o.number))
+    }
+
     // The order of the lowest number, with its place.
     fn lowest(&self) -> Option<(usize, Order)>
         ensures { MatchOption result (book self.now.slots ≡ []) (λ b. (b.0 < 256) × (at self.now.slots b.0 ≡ Some b.1) × (book self.now.slots ≡ b.1 ∷ book (slice_set self.now.slots b.0 None))) }
     {
-        let numbers = Numbers { places: self };
-        match first(&numbers) {
-            Some((i, _)) => match self.get(i) {
-                Some(o) => Some((i, o)),
-                None => None,
-            },
-            None => None,
-        }
+        let (place, _) = self.lowest_number()?;
+        let o = self.get(place)?;
+        Some((place, o))
     }
 
     // The order of the lowest number is taken out.
@@ -53,12 +32,8 @@ impl Places {
         ensures book { book self.old.slots ≡ first_then result (book self.new.slots) }
         ensures none { IfNone result (book self.old.slots ≡ []) }
     {
-        match self.lowest() {
-            Some((i, o)) => {
-                self.write(i, None);
-                Some(o)
-            }
-            None => None,
-        }
+        let (place, o) = self.lowest()?;
+        self.write(place, None);
+        Some(o)
     }
 }

@@ -1,70 +1,57 @@
 // What the places hold.
-ghost use Rattle.std.specs.Prelude.{◌≡◌, ℕ, ◌<◌, ◌≤◌, true, false, length, is_some, None, MatchOption, ◌≢◌};
+ghost use Rattle.std.specs.Prelude.{◌≡◌, ◌<◌, ◌≤◌, not, length, is_some, IfSome, position, count_by};
+ghost use Rattle.std.specs.Option.{option_map};
 ghost use Rattle.orders.specs.Book.{find};
 ghost use Rattle.book.specs.Places.{at, book, holds};
 
-use super::{PLACES, Places};
+use super::Places;
 use orders::order::Order;
-
-fn is_taken(slot: &Option<Order>) -> bool
-    ensures { result ≡ is_some slot.now }
-{
-    match slot {
-        Some(_) => true,
-        None => false,
-    }
-}
-
-fn has_number(slot: &Option<Order>, number: u64) -> bool
-    ensures { result ≡ holds number slot.now }
-{
-    match slot {
-        Some(o) => o.number == number,
-        None => false,
-    }
-}
 
 impl Places {
     // The order at a place.
     pub fn get(&self, place: usize) -> Option<Order>
-        requires { place < 256 }
         ensures { result ≡ at self.now.slots place }
     {
-        self.slots[place]
+        *self.slots.get(place)?
     }
 
-    // The place of the order with this number.
+    // The place of the order of this number.
     pub(super) fn place_of(&self, number: u64) -> Option<usize>
-        ensures { MatchOption result ((k : ℕ) → k < 256 → holds number (at self.now.slots k) ≡ false) (λ i. (i < 256) × (holds number (at self.now.slots i) ≡ true)) }
+        ensures { result ≡ position (holds number) self.now.slots }
     {
-        for i in 0..PLACES {
-            if has_number(&self.slots[i], number) {
-                return Some(i);
-            }
-        }
-        None
+        self.slots
+            .iter()
+            .position(|slot| slot.is_some_and(|o| o.number == number))
     }
 
     // A free place.
     pub(super) fn free_place(&self) -> Option<usize>
-        ensures { MatchOption result ((k : ℕ) → k < 256 → at self.now.slots k ≢ None) (λ i. (i < 256) × (at self.now.slots i ≡ None)) }
+        ensures { result ≡ position (λ s. not (is_some s)) self.now.slots }
     {
-        for i in 0..PLACES {
-            if let None = self.slots[i] {
-                return Some(i);
-            }
-        }
-        None
+        self.slots.iter().position(|slot| slot.is_none())
+    }
+
+    // The order of this number, with its place.
+    pub(super) fn held(&self, number: u64) -> Option<(usize, Order)>
+        ensures order { option_map (λ b. b.1) result ≡ find number (book self.now.slots) }
+        ensures place { IfSome result (λ b. (b.0 < 256) × (at self.now.slots b.0 ≡ Some b.1) × (b.1.number ≡ number)) }
+    {
+        let place = self.place_of(number)?;
+        let o = self.get(place)?;
+        Some((place, o))
     }
 
     // The live order of a number.
     pub fn order(&self, number: u64) -> Option<Order>
         ensures { result ≡ find number (book self.now.slots) }
     {
-        match self.place_of(number) {
-            Some(i) => self.get(i),
-            None => None,
-        }
+        self.held(number).map(|(_, o)| o)
+    }
+
+    fn taken(&self) -> usize
+        ensures { result ≡ count_by is_some self.now.slots }
+    {
+        self.slots.iter().filter(|slot| slot.is_some()).count()
     }
 
     // How many orders there are.
@@ -72,12 +59,6 @@ impl Places {
         ensures count { result ≡ length (book self.now.slots) }
         ensures most { result ≤ 256 }
     {
-        let mut n = 0;
-        for i in 0..PLACES {
-            if is_taken(&self.slots[i]) {
-                n += 1;
-            }
-        }
-        n
+        self.taken()
     }
 }

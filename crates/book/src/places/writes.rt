@@ -5,17 +5,17 @@ ghost use Rattle.orders.specs.Book.{number_of, stamp_of, find, replaced, without
 ghost use Rattle.book.specs.Places.{at, book, Alone, Under, OwnStamp, bounded};
 ghost use Rattle.orders.specs.declared.order.Order.{Order};
 
-use super::{PLACES, Places};
+use super::Places;
 use orders::order::{Order, Term};
+use orders::strip::PLACES;
 
 // A least term lasts through its first trade.
 fn loosen(term: Term) -> Term
     ensures { result ≡ loosened term }
 {
     match term {
-        Term::Plain => Term::Plain,
-        Term::All => Term::All,
         Term::Least(_) => Term::Plain,
+        other => other,
     }
 }
 
@@ -68,8 +68,8 @@ impl Places {
         requires bounds { in_bounds o ≡ true }
         ensures { book self.new.slots ≡ book self.old.slots ++ (o ∷ []) }
     {
-        if let Some(i) = self.free_place() {
-            self.write(i, Some(o));
+        if let Some(place) = self.free_place() {
+            self.write(place, Some(o));
         }
     }
 
@@ -79,8 +79,8 @@ impl Places {
         requires bounds { in_bounds o ≡ true }
         ensures { book self.new.slots ≡ replaced o (book self.old.slots) }
     {
-        if let Some(i) = self.place_of(o.number) {
-            self.write(i, Some(o));
+        if let Some((place, _)) = self.held(o.number) {
+            self.write(place, Some(o));
         }
     }
 
@@ -89,14 +89,9 @@ impl Places {
         ensures order { result ≡ find number (book self.old.slots) }
         ensures book { book self.new.slots ≡ without number (book self.old.slots) }
     {
-        match self.place_of(number) {
-            Some(i) => {
-                let o = self.get(i);
-                self.write(i, None);
-                o
-            }
-            None => None,
-        }
+        let (i, o) = self.held(number)?;
+        self.write(i, None);
+        Some(o)
     }
 
     // The order at a place trades q: it has less left, or its place is free where it has nothing left.
@@ -115,10 +110,8 @@ impl Places {
     pub fn take(&mut self, number: u64, q: u64)
         ensures { book self.new.slots ≡ reduced number q (book self.old.slots) }
     {
-        if let Some(i) = self.place_of(number) {
-            if let Some(o) = self.get(i) {
-                self.take_at(i, o, q);
-            }
+        if let Some((place, o)) = self.held(number) {
+            self.take_at(place, o, q);
         }
     }
 }

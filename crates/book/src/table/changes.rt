@@ -4,86 +4,86 @@ ghost use Rattle.orders.specs.Orders.{breaks_price, breaks_quantity, breaks_leas
 ghost use Rattle.orders.specs.Book.{find, placed, changed, amended, suspended, resumed, without, first_then, reduced};
 ghost use Rattle.book.specs.Table.{book_of};
 
-use super::Table;
+use super::{Given, Table};
 use crate::places::Places;
-use crate::places::amends::stamp_for;
 use orders::order::{Entry, Order, Term};
 
 impl Table {
     pub fn new() -> Table
         ensures book { book_of result ≡ [] }
-        ensures number { result.number ≡ 0 }
-        ensures stamp { result.stamp ≡ 0 }
+        ensures number { result.given.number ≡ 0 }
+        ensures stamp { result.given.stamp ≡ 0 }
     {
         Table {
             places: Places::new(),
-            number: 0,
-            stamp: 0,
+            given: Given {
+                number: 0,
+                stamp: 0,
+            },
         }
     }
 
     // Places an order under the next number and stamp, and answers its number.
+    // Price, quantity and term are no checked value of one type: an entry holds two of them already, and would be taken apart for it.
     pub fn place(&mut self, entry: Entry, price: u64) -> u64
         requires room { length (book_of self.old) < 256 }
-        requires stamp { self.old.stamp < 1000000 }
+        requires stamp { self.old.given.stamp < 1000000 }
         requires bounds { (breaks_price price ≡ false) × ((breaks_quantity entry.quantity ≡ false) × (breaks_least entry.term entry.quantity ≡ false)) }
-        ensures given { result ≡ self.old.number + 1 }
-        ensures book { book_of self.new ≡ book_of self.old ++ (placed entry price (self.old.number + 1) (self.old.stamp + 1) ∷ []) }
+        ensures given { result ≡ self.old.given.number + 1 }
+        ensures book { book_of self.new ≡ book_of self.old ++ (placed entry price (self.old.given.number + 1) (self.old.given.stamp + 1) ∷ []) }
         ensures live { length (book_of self.new) ≡ length (book_of self.old) + 1 }
-        ensures number { self.new.number ≡ self.old.number + 1 }
-        ensures stamp { self.new.stamp ≡ self.old.stamp + 1 }
+        ensures number { self.new.given.number ≡ self.old.given.number + 1 }
+        ensures stamp { self.new.given.stamp ≡ self.old.given.stamp + 1 }
     {
-        self.number += 1;
-        self.stamp += 1;
+        self.given.number += 1;
+        self.given.stamp += 1;
         self.places.add(Order {
-            number: self.number,
+            number: self.given.number,
             account: entry.account,
             issue: entry.issue,
             side: entry.side,
             price,
             left: entry.quantity,
             term: entry.term,
-            stamp: self.stamp,
+            stamp: self.given.stamp,
             working: true,
         });
-        self.number
+        self.given.number
     }
 
-    // Sets quantity left, price and term of an order, and gives it the next stamp if `again`.
+    // Sets quantity left, price and term of an order, and gives it the next stamp if `again`: no Option, since that stamp is the table's own.
     pub fn amend(&mut self, number: u64, quantity: u64, price: u64, term: Term, again: bool)
         requires bounds { (breaks_price price ≡ false) × ((breaks_quantity quantity ≡ false) × (breaks_least term quantity ≡ false)) }
-        requires stamp { again ≡ true → self.old.stamp < 1000000 }
-        ensures book { book_of self.new ≡ changed number (amended quantity price term again (self.old.stamp + 1)) (book_of self.old) }
+        requires stamp { again ≡ true → self.old.given.stamp < 1000000 }
+        ensures book { book_of self.new ≡ changed number (amended quantity price term again (self.old.given.stamp + 1)) (book_of self.old) }
         ensures live { length (book_of self.new) ≡ length (book_of self.old) }
-        ensures number { self.new.number ≡ self.old.number }
-        ensures stamp { self.new.stamp ≡ (if again then self.old.stamp + 1 else self.old.stamp) }
+        ensures number { self.new.given.number ≡ self.old.given.number }
+        ensures stamp { self.new.given.stamp ≡ (if again then self.old.given.stamp + 1 else self.old.given.stamp) }
     {
-        let next = self.stamp + 1;
-        self.places
-            .amend(number, quantity, price, term, again, next);
-        self.stamp = stamp_for(again, next, self.stamp);
+        let fresh = again.then_some(self.given.stamp + 1);
+        self.places.amend(number, quantity, price, term, fresh);
+        self.given.stamp = fresh.unwrap_or(self.given.stamp);
     }
 
     // Takes an order out of work.
     pub fn suspend(&mut self, number: u64)
         ensures book { book_of self.new ≡ changed number suspended (book_of self.old) }
         ensures live { length (book_of self.new) ≡ length (book_of self.old) }
-        ensures number { self.new.number ≡ self.old.number }
-        ensures stamp { self.new.stamp ≡ self.old.stamp }
+        ensures given { self.new.given ≡ self.old.given }
     {
         self.places.suspend(number);
     }
 
     // Puts an order back to work, with the next stamp.
     pub fn resume(&mut self, number: u64)
-        requires { self.old.stamp < 1000000 }
-        ensures book { book_of self.new ≡ changed number (resumed (self.old.stamp + 1)) (book_of self.old) }
+        requires { self.old.given.stamp < 1000000 }
+        ensures book { book_of self.new ≡ changed number (resumed (self.old.given.stamp + 1)) (book_of self.old) }
         ensures live { length (book_of self.new) ≡ length (book_of self.old) }
-        ensures number { self.new.number ≡ self.old.number }
-        ensures stamp { self.new.stamp ≡ self.old.stamp + 1 }
+        ensures number { self.new.given.number ≡ self.old.given.number }
+        ensures stamp { self.new.given.stamp ≡ self.old.given.stamp + 1 }
     {
-        self.stamp += 1;
-        self.places.resume(number, self.stamp);
+        self.given.stamp += 1;
+        self.places.resume(number, self.given.stamp);
     }
 
     // Ends the order of this number.
@@ -91,8 +91,7 @@ impl Table {
         ensures order { result ≡ find number (book_of self.old) }
         ensures book { book_of self.new ≡ without number (book_of self.old) }
         ensures live { length (book_of self.new) ≤ length (book_of self.old) }
-        ensures number { self.new.number ≡ self.old.number }
-        ensures stamp { self.new.stamp ≡ self.old.stamp }
+        ensures given { self.new.given ≡ self.old.given }
     {
         self.places.remove(number)
     }
@@ -101,8 +100,7 @@ impl Table {
     pub fn take_first(&mut self) -> Option<Order>
         ensures book { book_of self.old ≡ first_then result (book_of self.new) }
         ensures none { IfNone result (book_of self.old ≡ []) }
-        ensures number { self.new.number ≡ self.old.number }
-        ensures stamp { self.new.stamp ≡ self.old.stamp }
+        ensures given { self.new.given ≡ self.old.given }
     {
         self.places.take_first()
     }
@@ -111,8 +109,7 @@ impl Table {
     pub fn take(&mut self, number: u64, q: u64)
         ensures book { book_of self.new ≡ reduced number q (book_of self.old) }
         ensures live { length (book_of self.new) ≤ length (book_of self.old) }
-        ensures number { self.new.number ≡ self.old.number }
-        ensures stamp { self.new.stamp ≡ self.old.stamp }
+        ensures given { self.new.given ≡ self.old.given }
     {
         self.places.take(number, q);
     }

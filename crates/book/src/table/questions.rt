@@ -10,7 +10,6 @@ use orders::order::Order;
 impl Table {
     // The order at a place.
     pub fn get(&self, place: usize) -> Option<Order>
-        requires { place < 256 }
         ensures { result ≡ at_place self.now place }
     {
         self.places.get(place)
@@ -33,15 +32,15 @@ impl Table {
 
     // The number was never given.
     pub fn never_given(&self, number: u64) -> bool
-        ensures { result ≡ never_given self.now.number number }
+        ensures { result ≡ never_given self.now.given.number number }
     {
-        number == 0 || self.number < number
+        number == 0 || self.given.number < number
     }
 
     // Every stamp is given.
     pub fn stamps_out(&self) -> bool
-        ensures { result ≡ stamps_out self.now.stamp }
+        ensures { result ≡ stamps_out self.now.given.stamp }
     {
-        LAST_STAMP <= self.stamp
+        LAST_STAMP <= self.given.stamp
     }
 }

@@ -1,9 +1,10 @@
 use Rattle.std.proofs.Common.{sym, refl, ◌∙◌}
-use Rattle.orders.specs.Book.{number_of, stamp_of, suspended}
+use Rattle.orders.specs.Book.{stamp_of, suspended}
 use Rattle.book.specs.Places.{book}
-use Rattle.orders.proofs.Changes.{replaced_changed, changed_missing, find_missing}
+use Rattle.orders.proofs.Changes.{changed_none}
 use Rattle.book.proofs.Counters.{own_same}
 use Rattle.book.proofs.Slots.{book_distinct, found_bounds}
+use Rattle.book.proofs.Writes.{change_found}
 use Rattle.book.proofs.places.Places.suspend.Goals as goal
 
 pub replace-requires : goal.replace-requires
@@ -14,11 +15,7 @@ replace-requires c =
     record { stamp = own_same c.args.number (book t.slots) o (suspended o) (book_distinct stamp_of t.slots t.stamps) e refl refl; bounds = found_bounds t.slots c.args.number o t.valid e }
 
 pub returns-in-Some : goal.returns-in-Some
-returns-in-Some c =
-    let t = c.args.self.now in
-    c.replace.ensures ∙ replaced_changed suspended c.args.number c.in-Some.o (book t.slots) (book_distinct number_of t.slots t.numbers) (sym c.in-Some.ensures) refl
+returns-in-Some c = c.replace.ensures ∙ change_found c.args.self.now suspended c.args.number c.in-Some.o c.in-Some.ensures refl
 
 pub returns-in_default : goal.returns-in_default
-returns-in_default c =
-    let b = book c.args.self.now.slots in
-    sym (changed_missing c.args.number suspended b (find_missing c.args.number b (sym c.in_default.ensures)))
+returns-in_default c = sym (changed_none c.args.number suspended (book c.args.self.now.slots) (sym c.in_default.ensures))

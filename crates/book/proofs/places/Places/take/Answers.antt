@@ -1,11 +1,7 @@
 use Rattle.std.proofs.Common.{sym}
 use Rattle.book.specs.Places.{book}
-use Rattle.orders.proofs.Changes.{reduced_missing}
-use Rattle.book.proofs.Slots.{missing_book}
+use Rattle.orders.proofs.Changes.{reduced_none}
 use Rattle.book.proofs.places.Places.take.Goals as goal
 
 pub returns-in_default : goal.returns-in_default
-returns-in_default c =
-    let t = c.args.self.now in
-    let l = t.long in
-    sym (reduced_missing c.args.number c.args.q (book t.slots) (missing_book t.slots c.args.number (λ k h. c.in_default.ensures k (rw l at h))))
+returns-in_default c = sym (reduced_none c.args.number c.args.q (book c.args.self.now.slots) (sym c.in_default.ensures.order))

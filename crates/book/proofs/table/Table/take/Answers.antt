@@ -5,14 +5,15 @@ use Rattle.orders.proofs.Trades.{length_reduced}
 use Rattle.book.proofs.Counters.{under_is, under_reduced}
 use Rattle.book.proofs.table.Table.take.Goals as goal
 
-pub invariant_of-self : goal.invariant_of-self
-invariant_of-self c =
+pub invariant_of-self-clause-numbered : goal.invariant_of-self-clause-numbered
+invariant_of-self-clause-numbered c =
     let t = c.args.self.now in
-    let n = c.args.number in
-    let q = c.args.q in
-    let e = c.take.ensures in record { numbers = t.numbers; stamps = t.stamps; numbered = under_is number_of (t.number + 1) e (under_reduced number_of (t.number + 1) n q (book_of t) (λ o. refl) t.numbered); stamped = under_is stamp_of (t.stamp + 1) e (under_reduced stamp_of (t.stamp + 1) n q (book_of t) (λ o. refl) t.stamped) }
+    under_is number_of (t.given.number + 1) c.take.ensures (under_reduced number_of (t.given.number + 1) c.args.number c.args.q (book_of t) (λ o. refl) t.numbered)
 
-pub returns : goal.returns
-returns c =
-    let e = c.take.ensures in
-    record { book = e; live = omega (arith, ap length e, length_reduced c.args.number c.args.q (book_of c.args.self.now)); number = refl; stamp = refl }
+pub invariant_of-self-clause-stamped : goal.invariant_of-self-clause-stamped
+invariant_of-self-clause-stamped c =
+    let t = c.args.self.now in
+    under_is stamp_of (t.given.stamp + 1) c.take.ensures (under_reduced stamp_of (t.given.stamp + 1) c.args.number c.args.q (book_of t) (λ o. refl) t.stamped)
+
+pub returns-clause-live : goal.returns-clause-live
+returns-clause-live c = omega (arith, ap length c.take.ensures, length_reduced c.args.number c.args.q (book_of c.args.self.now))
