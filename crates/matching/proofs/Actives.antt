@@ -1,7 +1,8 @@
 -- Which order a round makes active, in words.
-use Rattle.std.proofs.Common.{◌≡◌, ℕ, ◌≤◌, true, false, not, ◌&&◌, eqb, leb, ◌⊎◌, List, [], Some, None, filter, Option, sym, refl, ap, ◌∙◌, subst, inl, inr}
+use Rattle.std.proofs.Common.{◌≡◌, ℕ, ◌≤◌, true, false, not, ◌&&◌, eqb, ◌⊎◌, List, [], Some, None, filter, Option, sym, refl, ◌∙◌, subst, inl, inr, arith}
 use Rattle.std.specs.Option.{option_or}
-use Rattle.std.proofs.lemmas.Bool.{cases_Bool, and_parts, and_from, eq-eqb, eqb-true, leb-true, ltb-true, ltb-false, both_ways}
+use Rattle.std.proofs.lemmas.Bool.Decides.{nat_tests}
+use Rattle.std.proofs.lemmas.Bool.{and_parts, eqb-true, ltb-false}
 use Rattle.orders.specs.declared.order.Order.{Order}
 use Rattle.orders.specs.declared.order.Trade.{Trade}
 use Rattle.orders.specs.declared.order.Side.{Side}
@@ -12,17 +13,17 @@ use Rattle.orders.specs.Rank.{first_by, ahead, earlier}
 use Rattle.orders.specs.Search.{In}
 use Rattle.orders.specs.Book.{Book}
 use Rattle.orders.specs.Laws.{Ahead}
-use Rattle.orders.specs.Lists.{none_some, cond_either, in_kept, kept_in}
+use Rattle.orders.specs.Lists.{none_some, in_kept, kept_in}
 use Rattle.orders.specs.Firsts.{first_none, first_tops}
 use Rattle.orders.specs.Ranks.{ahead_ranks, earlier_ranks, rank_said}
 use Rattle.matching.specs.Attempt.{attempt}
-use Rattle.matching.specs.Rounds.{best_plain, later, crossing, any_trade, special_in, ready, on_side, by_sides, first_ready}
+use Rattle.matching.specs.Rounds.{best_plain, crossing, any_trade, special_in, ready, on_side, by_sides, first_ready}
 use Rattle.matching.specs.Laws.{ReadyOrder, BestOrder, Crossed, ActiveSaid, other}
 use Rattle.matching.proofs.Settling.{same_side, plain_test, not_plain, none_in, no_cross, any_none, best_says, active_acts}
 
 -- a rank that does not put x before y leaves x not ahead of y
 not_ahead : (x y : Order) → x.side ≡ y.side → ahead x y ≡ false → Ahead x y → ⊥
-not_ahead x y s f a = both_ways (ahead x y) f ((rank_said x y s).1 a)
+not_ahead x y s f a = grind (arith, rank_said)
 
 best_order : (i : ℕ) (s : Side) (b : Book) (w : Order) → best_plain i s b ≡ Some w → BestOrder i s b w
 best_order i s b w e =
@@ -39,25 +40,21 @@ crossed : (i : ℕ) (b : Book) (x y : Option Order) → best_plain i Buy b ≡ x
 crossed i b None y ex ey a e = none_some a e
 crossed i b (Some x) None ex ey a e = none_some a e
 crossed i b (Some x) (Some y) ex ey a e =
-    cond_either (leb y.price x.price) (Some (later x y)) None (λ o. o ≡ Some a) e
-    (λ t k.
-    let is : later x y ≡ a = cc in
     record {
       buy = x;
       sell = y;
       best_buy = best_order i Buy b x ex;
       best_sell = best_order i Sell b y ey;
-      meet = leb-true _ _ t;
-      later = cond_either (earlier x y) y x (λ o. o ≡ a) is (λ l k. inr (sym k, ltb-true _ _ l)) (λ f k. inl (sym k, ltb-false _ _ f));
-    })
-    (λ _ k. none_some a k)
+      meet = grind (arith, nat_tests);
+      later = grind (arith, nat_tests);
+    }
 
 -- ---- ready orders by the test and in words
 some_trade : (ts : List Trade) → any_trade ts ≡ true → ts ≡ [] → ⊥
-some_trade ts t e = let f : any_trade ts ≡ false = ap any_trade e in both_ways (any_trade ts) f t
+some_trade ts t e = grind arith
 
 special_not_plain : (o : Order) → special o.term ≡ true → o.term ≡ Plain → ⊥
-special_not_plain o t e = both_ways (special o.term) (ap special e) t
+special_not_plain o t e = grind arith
 
 module _ (i : ℕ) (b : Book) where
   says : (o : Order) → In o (filter (ready i b) b) → (s : Side) → o.side ≡ s → ReadyOrder i s b o
@@ -69,22 +66,14 @@ module _ (i : ℕ) (b : Book) where
       record { live = k.0; issue = eqb-true _ _ q.0; side = e; working = r.1; special = special_not_plain o r.0; trades = some_trade (attempt o b) p.1 }
 
   told : (s : Side) (o : Order) → ReadyOrder i s b o → In o (filter (ready i b) b)
-  told s o h =
-      kept_in (ready i b) b o h.live (and_from _ _ (and_from _ _ (eq-eqb _ _ h.issue) (and_from _ _ (not_plain o.term h.special) h.working))
-      (elim (cases_Bool (any_trade (attempt o b))) [ inl t ↦ t | inr f ↦ absurd (h.trades (any_none (attempt o b) f)) ]))
+  told s o h = kept_in (ready i b) b o h.live (grind (arith, nat_tests, not_plain, any_none))
 
   told_on : (s : Side) (o : Order) → ReadyOrder i s b o → In o (filter (on_side s) (filter (ready i b) b))
   told_on s o h = kept_in (on_side s) (filter (ready i b) b) o (told s o h) (subst (λ x. not (opposed s x) ≡ true) (sym h.side) (same_side s))
 
   -- the side of an order that passes the test of a side
   side_of : (s : Side) (o : Order) → on_side s o ≡ true → o.side ≡ s
-  side_of s o e = by s o.side e
-    where
-      by : (s d : Side) → not (opposed s d) ≡ true → d ≡ s
-      by Buy Buy e = refl
-      by Buy Sell e = cc
-      by Sell Buy e = cc
-      by Sell Sell e = refl
+  side_of s o e = grind arith
 
   -- what is to be said of the ready order that is active
   abbrev Called : Order → Type 0

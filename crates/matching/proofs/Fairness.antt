@@ -1,6 +1,7 @@
 -- A rule for the trades of a walk, one by one; and by it, that the trades of an attempt are fair.
-use Rattle.std.proofs.Common.{◌≡◌, ℕ, ◌-◌, ◌<◌, ◌≤◌, min, true, false, not, eqb, leb, ◌⊎◌, List, [], ◌∷◌, map, Some, None, filter, Option, sym, refl, ap, ◌∙◌, subst, inl, inr, arith}
-use Rattle.std.proofs.lemmas.Bool.{cond_both, eqb-true, eqb-false, leb-true, cond-true, cond-false, and_parts, cases_lt, not-true}
+use Rattle.std.proofs.Common.{◌≡◌, ℕ, ◌+◌, ◌-◌, ◌<◌, ◌≤◌, min, true, not, eqb, List, [], ◌∷◌, length, map, Some, None, filter, Option, sym, refl, ap, ◌∙◌, subst, inl, inr, arith}
+use Rattle.std.proofs.lemmas.Bool.Decides.{nat_tests}
+use Rattle.std.proofs.lemmas.Bool.{cases_lt, cond_both, eqb-true, eqb-false, leb-true, and_parts, not-true}
 use Rattle.std.proofs.ByRecursion.{all_kept_by, kept_by_passes, All-weaker}
 use Rattle.std.specs.List.{AllByRecursion as EveryOne}
 use Rattle.orders.specs.declared.order.Order.{Order}
@@ -11,20 +12,20 @@ use Rattle.orders.specs.declared.order.Term.{Term}
 use Rattle.orders.specs.declared.order.Term.TheVariants.{Plain, All, Least}
 use Rattle.orders.specs.Orders.{opposed, within, working_opposite}
 use Rattle.orders.specs.Rank.{ahead}
-use Rattle.orders.specs.Book.{Book, number_of, find, without, reduced, lowered, after_trade}
+use Rattle.book.specs.declared.table.Table.{Table}
+use Rattle.book.specs.Table.{book_of}
+use Rattle.book.proofs.Tables.{sound_table}
+use Rattle.orders.specs.Book.{Book, number_of, find, without, reduced, lowered, after, after_trade}
 use Rattle.orders.specs.Laws.{Distinct, Sound, Fair, AllFair}
-use Rattle.orders.specs.Lists.{all_both, cond_either}
+use Rattle.orders.specs.Lists.{all_both}
 use Rattle.orders.proofs.Words.{opposite_says}
 use Rattle.orders.proofs.Validity.{not_least}
 use Rattle.orders.specs.Ranking.{distinct_kept, distinct_in_rank, all_in_rank}
 use Rattle.orders.proofs.Changes.{all_found, found_number, distinct_ascending}
-use Rattle.orders.proofs.Trades.{find_other, find_lowered, sound_reduced}
+use Rattle.orders.proofs.Trades.{count_trades, find_other, find_lowered, sound_reduced}
 use Rattle.matching.specs.Walk.{faces, candidates, gives, Part, part, walk, amount, first_giving, least_parts, parts}
 use Rattle.matching.specs.Attempt.{trade_of, attempt, if_working, attempt_of}
-use Rattle.matching.proofs.Walking.{gives_lesser, walk_none, giving_all}
-
-pub cases_le : (m n : ℕ) → (m ≤ n) ⊎ (n < m)
-cases_le m n = elim (cases_lt n m) [ inl h ↦ inr h | inr h ↦ inl h ]
+use Rattle.matching.proofs.Walking.{walk_none, giving_all}
 
 -- ---- what a part says of the waiting order
 record Gave (t : Term) (left w q : ℕ) : Type 0 where
@@ -33,21 +34,7 @@ record Gave (t : Term) (left w q : ℕ) : Type 0 where
   least : (m : ℕ) → t ≡ Least m → m ≤ q
 
 gave : (t : Term) (left w : ℕ) → 1 ≤ gives t left w → Gave t left w (gives t left w)
-gave t left w some = record { lesser = grind (arith, gives_lesser t left w); whole = all_whole t some; least = at_least t some }
-  where
-    all_whole : (t : Term) → 1 ≤ gives t left w → t ≡ All → left ≤ gives t left w
-    all_whole Plain some e = absurd (let z : ◌≡◌ {A = ℕ} 0 1 = cc in omega arith)
-    all_whole All some e = cond_either (leb left w) left 0 (λ x. 1 ≤ x) some (λ t _. rw (cond-true (leb left w) left 0 t) (omega arith)) (λ _ z. absurd (omega arith))
-    all_whole (Least k) some e = absurd (let z : ◌≡◌ {A = ℕ} 0 1 = cc in omega arith)
-
-    at_least : (t : Term) → 1 ≤ gives t left w → (m : ℕ) → t ≡ Least m → m ≤ gives t left w
-    at_least Plain some m e = absurd (let z : ◌≡◌ {A = ℕ} 0 1 = cc in omega arith)
-    at_least All some m e = absurd (let z : ◌≡◌ {A = ℕ} 0 1 = cc in omega arith)
-    at_least (Least k) some m e =
-        let same : k ≡ m = cc in
-        cond_either (leb k (min w left)) (min w left) 0 (λ x. 1 ≤ x) some
-        (λ t _. rw (cond-true (leb k (min w left)) (min w left) 0 t) (omega (arith, leb-true k (min w left) t)))
-        (λ _ z. absurd (omega arith))
+gave t left w some = record { lesser = grind (arith, nat_tests); whole = grind (arith, nat_tests); least = grind (arith, nat_tests) }
 
 -- ---- the active order and the waiting ones
 -- a waiting order of the book that the active order's limit meets
@@ -81,19 +68,16 @@ pub record Trading (s : Side) (a c : Order) (b : Book) (q : ℕ) : Type 0 where
   pub own : (m : ℕ) → a.term ≡ Least m → m ≤ q
 
 against_buy : (x : Side) → opposed Buy x ≡ true → x ≡ Sell
-against_buy Buy e = cc
-against_buy Sell e = refl
+against_buy x e = grind arith
 
 against_sell : (x : Side) → opposed Sell x ≡ true → x ≡ Buy
-against_sell Buy e = refl
-against_sell Sell e = cc
+against_sell x e = grind arith
 
 never_itself : (s : Side) → opposed s s ≡ true → ⊥
-never_itself Buy e = let z : ◌≡◌ {A = ℕ} 0 1 = cc in omega arith
-never_itself Sell e = let z : ◌≡◌ {A = ℕ} 0 1 = cc in omega arith
+never_itself s e = grind arith
 
 pub two : (s : Side) (a c : Order) (b : Book) → a.side ≡ s → find a.number b ≡ Some a → Meets s a b c → a.number ≡ c.number → ⊥
-two s a c b e l m same = never_itself s (let same_order : a ≡ c = cc in rw (ap (λ (o : Order). o.side) (sym same_order) ∙ e) at m.against)
+two s a c b e l m same = grind (arith, never_itself)
 
 pub apart_of : (s : Side) (a c : Order) (b : Book) (q : ℕ) → Trading s a c b q → a.number ≡ c.number → ⊥
 apart_of s a c b q t = two s a c b t.side t.active t.waiting
@@ -145,20 +129,19 @@ fair_one Sell a c b q t =
     }
 
 pub find_third : (s : Side) (a c : Order) (b : Book) (q m : ℕ) → (m ≡ a.number → ⊥) → (m ≡ c.number → ⊥) → find m (after_trade (trade_of s a c q) b) ≡ find m b
-find_third Buy a c b q m na nc = find_other m a.number q (reduced c.number q b) na ∙ find_other m c.number q b nc
-find_third Sell a c b q m na nc = find_other m c.number q (reduced a.number q b) nc ∙ find_other m a.number q b na
+find_third Buy a c b q m na nc = grind (arith, find_other)
+find_third Sell a c b q m na nc = grind (arith, find_other)
 
 find_active : (s : Side) (a c : Order) (b : Book) (q : ℕ) → (a.number ≡ c.number → ⊥) → find a.number b ≡ Some a → q < a.left → find a.number (after_trade (trade_of s a c q) b) ≡ Some (lowered q a)
-find_active Buy a c b q ne l lt = find_lowered a.number q a (reduced c.number q b) (find_other a.number c.number q b ne ∙ l) lt
-find_active Sell a c b q ne l lt = find_other a.number c.number q (reduced a.number q b) ne ∙ find_lowered a.number q a b l lt
+find_active Buy a c b q ne l lt = grind (arith, find_other, find_lowered)
+find_active Sell a c b q ne l lt = grind (arith, find_other, find_lowered)
 
 abbrev pub made : Side → Order → List Part → List Trade
 made s a ps = map (λ p. trade_of s a p.from p.quantity) ps
 
 -- a lowered order makes the same trades
 made_lowered : (s : Side) (a : Order) (q : ℕ) (ps : List Part) → made s (lowered q a) ps ≡ made s a ps
-made_lowered Buy a q ps = refl
-made_lowered Sell a q ps = refl
+made_lowered s a q ps = grind arith
 
 sound_trade : (t : Trade) (b : Book) → Sound b → Sound (after_trade t b)
 sound_trade t b h = sound_reduced t.buy t.quantity (reduced t.sell t.quantity b) (sound_reduced t.sell t.quantity b h)
@@ -173,9 +156,9 @@ module _ (s : Side) (Q : Order → Book → List Trade → Type 0)
 
   part_rule : (c : Order) (cs : List Order) → Walked cs → (q : ℕ) (a : Order) (b : Book) → Walks s a b cs → Trading s a c b q → EveryOne (λ x. x.number ≡ c.number → ⊥) cs → Q a b (made s a (part c q ∷ walk (a.left - q) cs))
   part_rule c cs ih q a b w t others =
-      elim (cases_le a.left q) [
-        | inl over ↦ let z : a.left - q ≡ 0 = omega arith in rw (z, walk_none cs) (last a c b q t over)
-        | inr under ↦ more a c b q (made s a (walk (a.left - q) cs)) t under (rest under)
+      elim (cases_lt q a.left) [
+        | inr over ↦ let z : a.left - q ≡ 0 = omega arith in rw (z, walk_none cs) (last a c b q t over)
+        | inl under ↦ more a c b q (made s a (walk (a.left - q) cs)) t under (rest under)
       ]
     where
       next : Book
@@ -223,10 +206,10 @@ module _ (s : Side) (Q : Order → Book → List Trade → Type 0)
       (All-weaker (λ x. other x ≡ true) (λ x. x.number ≡ o.number → ⊥) (λ x t. eqb-false _ _ (not-true _ t)) (without o.number cs) (kept_by_passes other cs))
 
   pub parts_rule : (t : Term) (cs : List Order) (a : Order) (b : Book) → a.term ≡ t → Walks s a b cs → Q a b (made s a (parts t a.left cs))
-  parts_rule Plain cs a b t w = walk_rule cs a b w (λ m u. let z : ◌≡◌ {A = ℕ} 0 1 = cc in omega arith)
+  parts_rule Plain cs a b t w = walk_rule cs a b w (λ m u. grind arith)
   parts_rule All cs a b t w =
       cond_both (eqb (amount (walk a.left cs)) a.left) (walk a.left cs) [] (λ ps. Q a b (made s a ps))
-      (λ _. walk_rule cs a b w (λ m u. let z : ◌≡◌ {A = ℕ} 0 1 = cc in omega arith)) (λ _. nil a b w.active)
+      (λ _. walk_rule cs a b w (λ m u. grind arith)) (λ _. nil a b w.active)
   parts_rule (Least m) cs a b t w = least_rule m cs a b t w (first_giving m a.left cs) refl
 
 -- ---- the candidates wait on the book
@@ -257,13 +240,7 @@ attempt_fair a b h l w =
 
 -- ---- the attempt by number
 pub attempt_working : (n : ℕ) (b : Book) (a : Order) → find n b ≡ Some a → a.working ≡ true → attempt_of n b ≡ attempt a b
-attempt_working n b a e w = ap (λ o. if_working o b) e ∙ cond-true a.working (attempt a b) [] w
-
-pub attempt_idle : (n : ℕ) (b : Book) (a : Order) → find n b ≡ Some a → a.working ≡ false → attempt_of n b ≡ []
-attempt_idle n b a e w = ap (λ o. if_working o b) e ∙ cond-false a.working (attempt a b) [] w
-
-pub attempt_absent : (n : ℕ) (b : Book) → find n b ≡ None → attempt_of n b ≡ []
-attempt_absent n b e = ap (λ o. if_working o b) e
+attempt_working n b a e w = rw (e, w) refl
 
 -- what holds of no trade and of a working order's attempt holds of every attempt
 pub attempt_either : (P : List Trade → Type 0) (n : ℕ) (b : Book) → P [] → ((a : Order) → find a.number b ≡ Some a → a.working ≡ true → P (attempt a b)) → P (attempt_of n b)
@@ -275,3 +252,8 @@ attempt_either P n b none some = go (find n b) refl
 
 pub fair_attempt : (n : ℕ) (b : Book) → Sound b → AllFair (attempt_of n b) b
 fair_attempt n b h = attempt_either (λ ts. AllFair ts b) n b tt (λ a l w. attempt_fair a b h l w)
+
+-- a table's live working order makes at most as many trades as orders end
+pub attempt_few : (t : Table) (a : Order) → (find a.number (book_of t) ≡ Some a) × (a.working ≡ true) →
+    length (attempt a (book_of t)) + length (after (attempt a (book_of t)) (book_of t)) ≤ length (book_of t)
+attempt_few t a h = count_trades (attempt a (book_of t)) (book_of t) (attempt_fair a (book_of t) (sound_table t) h.0 h.1)

@@ -1,12 +1,11 @@
 -- What a round does depends on the orders of its issue alone, and its trades leave the other issues as they are.
-use Rattle.std.proofs.Common.{◌≡◌, ℕ, Bool, true, false, ◌&&◌, eqb, List, [], ◌∷◌, Some, filter, sym, refl, ap, ◌∙◌, subst, arith}
+use Rattle.std.proofs.Common.{◌≡◌, ℕ, Bool, ◌&&◌, eqb, List, [], ◌∷◌, Some, filter, sym, refl, ap, ◌∙◌, subst, arith}
 use Rattle.std.proofs.lemmas.Bool.{eq-eqb}
 use Rattle.std.proofs.lemmas.Bool.Decides.{nat_tests}
 use Rattle.std.specs.List.{AllByRecursion as EveryOne}
 use Rattle.orders.specs.declared.order.Order.{Order}
 use Rattle.orders.specs.declared.order.Trade.{Trade}
 use Rattle.orders.specs.declared.order.Side.{Side}
-use Rattle.orders.specs.declared.order.Side.TheVariants.{Buy, Sell}
 use Rattle.orders.specs.Orders.{opposed, within}
 use Rattle.orders.specs.Rank.{in_rank, ahead}
 use Rattle.orders.specs.Search.{In}
@@ -20,8 +19,7 @@ use Rattle.matching.specs.Laws.{QuietLocal, of_issue}
 
 -- ---- an attempt sees the orders of its issue alone
 own_issue : (i r l : Bool) → (i && ((i && r) && l)) ≡ ((i && r) && l)
-own_issue true r l = refl
-own_issue false r l = refl
+own_issue i r l = grind arith
 
 faces_local : (a : Order) (b : Book) → filter (faces a) (of_issue a.issue b) ≡ filter (faces a) b
 faces_local a b =
@@ -56,19 +54,19 @@ pub issue_after : (i j : ℕ) (ts : List Trade) (b : Book) → (i ≡ j → ⊥)
 issue_after i j [] b ne h is = refl
 issue_after i j (t ∷ ts) b ne h is =
     let f = h.0 in
-    let still : find t.buy (reduced t.sell t.quantity b) ≡ Some f.buy = find_other t.buy t.sell t.quantity b (two_orders t b f) ∙ f.buy_live in
-    issue_after i j ts (after_trade t b) ne h.1 is.1
-    ∙ issue_reduced j t.buy t.quantity f.buy (reduced t.sell t.quantity b) still (λ e. ne (sym is.0 ∙ sym f.buy_issue ∙ e))
-    ∙ issue_reduced j t.sell t.quantity f.sell b f.sell_live (λ e. ne (sym is.0 ∙ sym f.sell_issue ∙ e))
+    let ih = issue_after i j ts (after_trade t b) ne h.1 is.1 in
+    let still = find_other t.buy t.sell t.quantity b (two_orders t b f) in
+    let buys = issue_reduced j t.buy t.quantity f.buy (reduced t.sell t.quantity b) in
+    let sells = issue_reduced j t.sell t.quantity f.sell b in
+    grind arith
 
 -- ---- the trades of an attempt are of the active order's issue
 issue_of : (s : Side) (a o : Order) (q : ℕ) → (trade_of s a o q).issue ≡ a.issue
-issue_of Buy a o q = refl
-issue_of Sell a o q = refl
+issue_of s a o q = grind arith
 
 made_issue : (i : ℕ) (a : Order) → a.issue ≡ i → (ps : List Part) → EveryOne (λ t. t.issue ≡ i) (trades_of a ps)
 made_issue i a e [] = tt
-made_issue i a e (p ∷ ps) = (issue_of a.side a p.from p.quantity ∙ e, made_issue i a e ps)
+made_issue i a e (p ∷ ps) = let ih = made_issue i a e ps in grind (arith, issue_of)
 
 pub attempt_issue : (i : ℕ) (a : Order) (b : Book) → a.issue ≡ i → EveryOne (λ t. t.issue ≡ i) (attempt a b)
 attempt_issue i a b e = made_issue i a e (parts a.term a.left (candidates a b))

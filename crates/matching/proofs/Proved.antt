@@ -1,12 +1,12 @@
 -- The laws of attempts and rounds.
 use Rattle.std.proofs.Common.{◌≡◌, ℕ, zero, suc, ◌<◌, ◌≤◌, Bool, not, eqb, List, [], ◌∷◌, ◌++◌, length, Some, None, filter, Option, sym, refl, ap, ◌∙◌, subst, inl, inr, arith, length-append}
 use Rattle.std.proofs.lemmas.Bool.{cond_both, cases_eq}
+use Rattle.std.proofs.lemmas.List.{nil_from_length}
 use Rattle.std.proofs.ByRecursion.{all_kept_by, All-append}
 use Rattle.std.specs.List.{AllByRecursion as EveryOne}
 use Rattle.orders.specs.declared.order.Order.{Order}
 use Rattle.orders.specs.declared.order.Trade.{Trade}
 use Rattle.orders.specs.declared.order.Side.{Side}
-use Rattle.orders.specs.declared.order.Side.TheVariants.{Buy, Sell}
 use Rattle.orders.specs.Orders.{Valid}
 use Rattle.orders.specs.Rank.{ahead}
 use Rattle.orders.specs.Search.{In}
@@ -32,8 +32,7 @@ well b ts s f w = record { fair = f; whole = whole_trades ts b s f w; sound = so
 
 -- each trade of an attempt is at the waiting order's price
 at_price : (s : Side) (a o : Order) (b : Book) (q : ℕ) → In o b → AtWaitingPrice a b (trade_of s a o q)
-at_price Buy a o b q i = record { waiting = o; live = i; price = refl; sides = inl (refl, refl) }
-at_price Sell a o b q i = record { waiting = o; live = i; price = refl; sides = inr (refl, refl) }
+at_price s a o b q i = grind arith
 
 all_at_price : (a : Order) (b : Book) (ps : List Part) → EveryOne (λ p. In p.from b) ps → EveryOne (AtWaitingPrice a b) (trades_of a ps)
 all_at_price a b [] h = tt
@@ -77,12 +76,8 @@ rounds_whole k i b s =
     k b s
 
 -- ---- as many rounds as there are live orders are enough
-empty : (b : Book) → length b ≤ 0 → b ≡ []
-empty [] h = refl
-empty (o ∷ os) h = absurd (omega arith)
-
 none_active : (i : ℕ) (b : Book) → length b ≤ 0 → active_in i b ≡ None
-none_active i b h = ap (active_in i) (empty b h)
+none_active i b h = ap (active_in i) (nil_from_length b (omega arith))
 
 record Over (i : ℕ) (b : Book) (r : Rounds) : Type 0 where
   none : active_in i (after r.trades b) ≡ None

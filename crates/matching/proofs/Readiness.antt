@@ -1,38 +1,31 @@
 -- The first ready order among the listed ones is that of the book.
-use Rattle.std.proofs.Common.{◌≡◌, ℕ, zero, suc, ◌<◌, Bool, true, false, cond, ◌&&◌, eqb, List, [], ◌∷◌, length, get_or, Some, None, filter, Option, sym, refl, ap, ◌∙◌, subst, inl, inr, arith}
-use Rattle.std.proofs.lemmas.Bool.{cond-true, cond-false, cases_Bool, and_parts, and_from, eqb-true}
+use Rattle.std.proofs.Common.{◌≡◌, ℕ, zero, suc, ◌<◌, Bool, true, cond, ◌&&◌, List, [], ◌∷◌, length, Some, None, filter, Option, sym, refl, ap, ◌∙◌, subst, inl, inr, arith}
+use Rattle.std.proofs.lemmas.Bool.Decides.{nat_tests}
+use Rattle.std.proofs.lemmas.Bool.{cond-true, and_parts, and_from}
 use Rattle.std.specs.Option.{option_map}
 use Rattle.std.specs.List.{AllByRecursion as EveryOne}
 use Rattle.orders.specs.declared.order.Order.{Order}
 use Rattle.orders.specs.declared.order.Side.{Side}
 use Rattle.orders.specs.declared.rank.Stamped.{Stamped}
 use Rattle.book.specs.declared.table.Table.{Table}
-use Rattle.orders.specs.Orders.{special}
 use Rattle.orders.specs.Rank.{first_by, in_rank, ahead, earlier}
 use Rattle.orders.specs.Search.{In, First}
 use Rattle.orders.specs.Stamps.{stamped, unstamped}
 use Rattle.book.specs.Table.{book_of, at_place}
-use Rattle.orders.specs.Lists.{none_some, some_none, in_kept, kept_in, kept_kept, kept_alike, passing_some}
+use Rattle.orders.specs.Lists.{some_none, in_kept, kept_in, kept_kept, kept_alike, passing_some}
 use Rattle.orders.specs.Firsts.{searched}
 use Rattle.orders.specs.Ranks.{ahead_ranks, earlier_ranks, earlier_ties}
 use Rattle.orders.specs.Ranking.{in_ranked, ranked_in}
 use Rattle.book.proofs.Cursor.{first_that, first_that_ranked, first_unstamped}
 use Rattle.book.proofs.Tables.{table_ties}
 use Rattle.matching.specs.declared.listed.Listed.{Listed}
-use Rattle.matching.specs.Attempt.{attempt}
-use Rattle.matching.specs.Rounds.{any_trade, special_in, on_side, ready}
-use Rattle.matching.specs.Listing.{working_of, orders_in, InPlace, blank, order_at, Lists, attempt_over, ready_over, ready_on, ready_at, first_row}
+use Rattle.matching.specs.Rounds.{on_side, ready}
+use Rattle.matching.specs.Listing.{working_of, orders_in, InPlace, order_at, Lists, ready_over, ready_on, ready_at, first_row}
 use Rattle.matching.proofs.Listings.{attempt_listed}
 
 -- ---- ready over the listed orders is ready on the book
 pub ready_same : (t : Table) (i : ℕ) (rows : List Listed) → Lists t i rows → (o : Order) → ready_over i rows o ≡ ready i (book_of t) o
-ready_same t i rows h o =
-    elim (cases_Bool (eqb o.issue i)) [
-      | inl e ↦ ap (λ ts. special_in i o && any_trade ts) (attempt_listed t o rows (subst (λ k. Lists t k rows) (sym (eqb-true _ _ e)) h))
-      | inr e ↦
-          ap (λ x. (x && (special o.term && o.working)) && any_trade (attempt_over o rows)) e
-          ∙ sym (ap (λ x. (x && (special o.term && o.working)) && any_trade (attempt o (book_of t))) e)
-    ]
+ready_same t i rows h o = let e = attempt_listed t o rows in grind (arith, nat_tests)
 
 works : (i s w r : Bool) → ((i && (s && w)) && r) ≡ true → (i && w) ≡ true
 works i s w r e =
@@ -41,40 +34,19 @@ works i s w r e =
     and_from i w q.0 (and_parts s w q.1).1
 
 pub ready_works : (i : ℕ) (b : List Order) (o : Order) → ready i b o ≡ true → working_of i o ≡ true
-ready_works i b o e = works (eqb o.issue i) (special o.term) o.working (any_trade (attempt o b)) e
+ready_works i b o e = grind arith
 
 -- ---- the first row that passes
 first_placed : (t : Table) (p : Order → Bool) (rows : List Listed) → EveryOne (InPlace t) rows → (k : ℕ) → Some k ≡ option_map (λ x. x.place) (first_row p rows) → (k < 256) × (at_place t k ≡ first_that p (orders_in rows))
 first_placed t p [] h k e = some_none k e
-first_placed t p (r ∷ rs) h k e =
-    let rest = first_that p (orders_in rs) in
-    elim (cases_Bool (p r.order)) [
-      | inl y ↦
-          let same : Some k ≡ Some r.place = e ∙ ap (option_map (λ x. x.place)) (cond-true (p r.order) (Some r) (first_row p rs) y) in
-          let is : r.place ≡ k = cc in
-          subst (λ j. (j < 256) × (at_place t j ≡ first_that p (r.order ∷ orders_in rs))) is (h.0.0, h.0.1 ∙ sym (cond-true (p r.order) (Some r.order) rest y))
-      | inr n ↦
-          let ih = first_placed t p rs h.1 k (e ∙ ap (option_map (λ x. x.place)) (cond-false (p r.order) (Some r) (first_row p rs) n)) in
-          (ih.0, ih.1 ∙ sym (cond-false (p r.order) (Some r.order) rest n))
-    ]
+first_placed t p (r ∷ rs) h k e = let ih = first_placed t p rs h.1 k in grind arith
 
 first_absent : (p : Order → Bool) (rows : List Listed) → None ≡ option_map (λ x. x.place) (first_row p rows) → None ≡ first_that p (orders_in rows)
 first_absent p [] e = refl
-first_absent p (r ∷ rs) e =
-    elim (cases_Bool (p r.order)) [
-      | inl y ↦ none_some r.place (e ∙ ap (option_map (λ x. x.place)) (cond-true (p r.order) (Some r) (first_row p rs) y))
-      | inr n ↦
-          first_absent p rs (e ∙ ap (option_map (λ x. x.place)) (cond-false (p r.order) (Some r) (first_row p rs) n))
-          ∙ sym (cond-false (p r.order) (Some r.order) (first_that p (orders_in rs)) n)
-    ]
+first_absent p (r ∷ rs) e = let ih = first_absent p rs in grind arith
 
 swap_works : (w s r : Bool) → (r ≡ true → w ≡ true) → (w && (s && r)) ≡ (r && s)
-swap_works true true true f = refl
-swap_works true true false f = refl
-swap_works true false true f = refl
-swap_works true false false f = refl
-swap_works false s true f = absurd (let z : ◌≡◌ {A = ℕ} 0 1 = (let e = f refl in cc) in omega arith)
-swap_works false s false f = refl
+swap_works w s r f = grind arith
 
 module _ (t : Table) (i : ℕ) (s : Side) (rows : List Listed) (h : Lists t i rows) where
   on_book : first_that (ready_on i s rows) (orders_in rows) ≡ first_by ahead (filter (on_side s) (filter (ready i (book_of t)) (book_of t)))
@@ -93,11 +65,6 @@ module _ (t : Table) (i : ℕ) (s : Side) (rows : List Listed) (h : Lists t i ro
   side_absent e = first_absent (ready_on i s rows) rows e ∙ on_book
 
 -- ---- the lowest stamp
-pub row_placed_at : (t : Table) (rows : List Listed) → EveryOne (InPlace t) rows → (k : ℕ) → k < length rows → InPlace t (get_or rows k blank)
-row_placed_at t [] h k l = absurd (omega arith)
-row_placed_at t (r ∷ rs) h zero l = h.0
-row_placed_at t (r ∷ rs) h (suc k) l = row_placed_at t rs h.1 k (omega arith)
-
 row_in : (rows : List Listed) (k : ℕ) → k < length rows → In (order_at rows k) (orders_in rows)
 row_in [] k l = absurd (omega arith)
 row_in (r ∷ rs) zero l = inl refl
@@ -107,10 +74,13 @@ in_row : (rows : List Listed) (x : Order) → In x (orders_in rows) → (k : ℕ
 in_row [] x i = absurd i
 in_row (r ∷ rs) x i = elim i [ inl e ↦ (0, omega arith, e) | inr j ↦ let h = in_row rs x j in (suc h.0, omega (arith, h.1), h.2) ]
 
+unstamp : (best : Option (ℕ × Stamped)) → option_map (λ b. b.1.order) best ≡ option_map (λ b. b.1) (unstamped best)
+unstamp best = grind arith
+
 pub earliest_is : (t : Table) (i : ℕ) (rows : List Listed) → Lists t i rows → (best : Option (ℕ × Stamped)) → First (λ (x y : Stamped). earlier x.order y.order) (λ k. stamped (ready_at i rows k)) (length rows) best →
-    option_map (λ b. b.1) (unstamped best) ≡ first_by earlier (filter (ready i (book_of t)) (book_of t))
+    option_map (λ b. b.1.order) best ≡ first_by earlier (filter (ready i (book_of t)) (book_of t))
 earliest_is t i rows h best f =
-    searched earlier_ranks (ready_at i rows) (length rows) (filter (ready i b) b) (unstamped best)
+    unstamp best ∙ searched earlier_ranks (ready_at i rows) (length rows) (filter (ready i b) b) (unstamped best)
     (λ k x l e.
     let r = passing_some (ready_over i rows) (Some (order_at rows k)) x e in
     let same : order_at rows k ≡ x = (let q = r.0 in cc) in
@@ -126,14 +96,3 @@ earliest_is t i rows h best f =
   where
     b : List Order
     b = book_of t
-
-pub earliest_at : (i : ℕ) (rows : List Listed) (k : ℕ) (x : Stamped) → stamped (ready_at i rows k) ≡ Some x → order_at rows k ≡ x.order
-earliest_at i rows k x e =
-    elim (cases_Bool (ready_over i rows (order_at rows k))) [
-      | inl y ↦
-          let is : Some (record { order = order_at rows k }) ≡ Some x = sym (ap stamped (cond-true (ready_over i rows (order_at rows k)) (Some (order_at rows k)) None y)) ∙ e in
-          let r : Stamped = record { order = order_at rows k } in
-          let same : r ≡ x = cc in
-          ap (λ (z : Stamped). z.order) same
-      | inr n ↦ none_some x (sym (ap stamped (cond-false (ready_over i rows (order_at rows k)) (Some (order_at rows k)) None n)) ∙ e)
-    ]

@@ -1,30 +1,31 @@
 -- An order that a round makes active trades, rounds end, and the book is quiet after them.
-use Rattle.std.proofs.Common.{◌≡◌, ℕ, zero, suc, ◌+◌, ◌-◌, ◌<◌, ◌≤◌, max, Bool, true, false, cond, not, ◌&&◌, eqb, leb, List, [], ◌∷◌, ◌++◌, length, is_some, Some, None, filter, Option, sym, refl, ap, ◌∙◌, subst, inl, inr, arith, length-append}
-use Rattle.std.proofs.lemmas.Bool.{cond_both, cases_Bool, eqb-true, eq-eqb, leb-false, and_parts, and_from}
+use Rattle.std.proofs.Common.{◌≡◌, ℕ, zero, suc, ◌+◌, ◌-◌, ◌<◌, ◌≤◌, max, true, false, not, leb, List, [], ◌∷◌, ◌++◌, length, is_some, Some, None, filter, Option, sym, refl, ap, ◌∙◌, subst, inl, inr, arith, length-append}
+use Rattle.std.proofs.lemmas.Bool.Decides.{nat_tests}
+use Rattle.std.proofs.lemmas.Bool.{cond_both, cases_Bool, eq-eqb, and_from}
 use Rattle.std.specs.Option.{option_or}
 use Rattle.orders.specs.declared.order.Order.{Order}
 use Rattle.orders.specs.declared.order.Trade.{Trade}
 use Rattle.orders.specs.declared.order.Side.{Side}
 use Rattle.orders.specs.declared.order.Side.TheVariants.{Buy, Sell}
 use Rattle.orders.specs.declared.order.Term.{Term}
-use Rattle.orders.specs.declared.order.Term.TheVariants.{Plain, All, Least}
-use Rattle.orders.specs.Orders.{Valid, opposed, within, special, working_in, plain_in}
+use Rattle.orders.specs.declared.order.Term.TheVariants.{Plain}
+use Rattle.orders.specs.Orders.{Valid, opposed, within, special, plain_in}
 use Rattle.orders.specs.Rank.{first_by, ahead, earlier}
 use Rattle.orders.specs.Search.{In}
 use Rattle.orders.specs.Book.{Book, find, after}
 use Rattle.orders.specs.Laws.{Sound, AllFair}
 use Rattle.orders.specs.Tape.{written, recorded}
-use Rattle.orders.specs.Lists.{none_some, some_none, cond_either, all_in, in_kept, kept_in}
+use Rattle.orders.specs.Lists.{none_some, cond_either, all_in, in_kept, kept_in}
 use Rattle.orders.proofs.Words.{PlainIn, plain_says}
 use Rattle.orders.specs.Firsts.{first_none, first_tops}
 use Rattle.orders.specs.Ranks.{ahead_ranks, earlier_ranks, buy_price, sell_price}
 use Rattle.orders.specs.Ranking.{ranked_in}
 use Rattle.orders.proofs.Changes.{in_found, distinct_ascending}
 use Rattle.orders.proofs.Trades.{sound_after, count_trades, after_append}
-use Rattle.orders.proofs.Tapes.{written_append, written_is}
+use Rattle.orders.proofs.Tapes.{length_written, written_append, written_is}
 use Rattle.matching.specs.Walk.{faces, candidates, gives, first_giving}
 use Rattle.matching.specs.Attempt.{attempt, attempt_of}
-use Rattle.matching.specs.Rounds.{best_plain, later, crossing, any_trade, special_in, ready, on_side, by_sides, first_ready, active_in, Rounds, round, rounds, all_rounds}
+use Rattle.matching.specs.Rounds.{best_plain, later, crossing, any_trade, ready, on_side, by_sides, first_ready, active_in, Rounds, rounds, all_rounds}
 use Rattle.matching.specs.Laws.{PlainOrder, Quiet}
 use Rattle.matching.proofs.Walking.{plain_trades}
 use Rattle.matching.proofs.Fairness.{attempt_fair, attempt_working}
@@ -35,18 +36,13 @@ same_side Buy = refl
 same_side Sell = refl
 
 pub plain_test : (i : ℕ) (s : Side) (o : Order) → PlainOrder i s o → plain_in i s o ≡ true
-plain_test i s o h =
-    and_from (working_in i s o) (not (special o.term))
-    (and_from _ _ (eq-eqb _ _ h.issue) (and_from _ _ (subst (λ x. not (opposed s x) ≡ true) (sym h.side) (same_side s)) h.working))
-    (subst (λ t. not (special t) ≡ true) (sym h.plain) refl)
+plain_test i s o h = grind (arith, nat_tests)
 
 pub not_plain : (t : Term) → (t ≡ Plain → ⊥) → special t ≡ true
-not_plain Plain h = absurd (h refl)
-not_plain All h = refl
-not_plain (Least m) h = refl
+not_plain t h = grind arith
 
 pub none_in : (x : Order) (xs : List Order) → xs ≡ [] → In x xs → ⊥
-none_in x xs e i = subst (In x) e i
+none_in x xs e i = rw e at i
 
 -- ---- the best plain orders
 module _ (i : ℕ) (s : Side) (b : Book) where
@@ -66,8 +62,7 @@ module _ (i : ℕ) (s : Side) (b : Book) where
 
 -- ---- a book on which no order is active is quiet
 or_none : {X : Type 0} (x y : Option X) → option_or x y ≡ None → (x ≡ None) × (y ≡ None)
-or_none None y e = (refl, e)
-or_none (Some x) y e = some_none x e
+or_none x y e = grind arith
 
 pub no_cross : (i : ℕ) (b : Book) (v w : Option Order) → best_plain i Buy b ≡ v → best_plain i Sell b ≡ w → crossing v w ≡ None →
     (x y : Order) → In x b → In y b → PlainOrder i Buy x → PlainOrder i Sell y → x.price < y.price
@@ -76,35 +71,24 @@ no_cross i b (Some v) None ev ew e x y ix iy px py = absurd (best_none i Sell b 
 no_cross i b (Some v) (Some w) ev ew e x y ix iy px py =
     let bv = best_says i Buy b v ev in
     let bw = best_says i Sell b w ew in
-    let below = leb-false w.price v.price (no_cond (leb w.price v.price) (later v w) e) in
     let xv = buy_price x v px.side bv.plain.side (bv.top x ix (plain_test i Buy x px)) in
     let yw = sell_price y w py.side bw.plain.side (bw.top y iy (plain_test i Sell y py)) in
-    omega arith
-  where
-    no_cond : {X : Type 0} (t : Bool) (x : X) → cond t (Some x) None ≡ None → t ≡ false
-    no_cond true x e = some_none x e
-    no_cond false x e = refl
+    grind (arith, nat_tests)
 
 either_side : (rs : List Order) → filter (on_side Buy) rs ≡ [] → filter (on_side Sell) rs ≡ [] → rs ≡ []
 either_side [] e f = refl
-either_side (o ∷ os) e f = absurd (go o.side refl)
-  where
-    on : (s : Side) → o.side ≡ s → In o (filter (on_side s) (o ∷ os))
-    on s k = kept_in (on_side s) (o ∷ os) o (inl refl) (subst (λ x. not (opposed s x) ≡ true) (sym k) (same_side s))
-
-    go : (s : Side) → o.side ≡ s → ⊥
-    go Buy k = none_in o (filter (on_side Buy) (o ∷ os)) e (on Buy k)
-    go Sell k = none_in o (filter (on_side Sell) (o ∷ os)) f (on Sell k)
+either_side (o ∷ os) e f = grind arith
 
 none_first : (rs : List Order) (x y : Option Order) → first_by ahead (filter (on_side Buy) rs) ≡ x → first_by ahead (filter (on_side Sell) rs) ≡ y → by_sides x y (first_by earlier rs) ≡ None → rs ≡ []
-none_first rs None None ex ey e = either_side rs (first_none ahead _ ex) (first_none ahead _ ey)
-none_first rs None (Some y) ex ey e = some_none y e
-none_first rs (Some x) None ex ey e = some_none x e
-none_first rs (Some x) (Some y) ex ey e = first_none earlier rs e
+none_first rs x y ex ey e =
+    let buys = first_none ahead (filter (on_side Buy) rs) in
+    let sells = first_none ahead (filter (on_side Sell) rs) in
+    let all = first_none earlier rs in
+    let none = either_side rs in
+    grind arith
 
 pub any_none : (ts : List Trade) → any_trade ts ≡ false → ts ≡ []
-any_none [] e = refl
-any_none (t ∷ ts) e = cc
+any_none ts e = grind arith
 
 pub quiet_from_none : (i : ℕ) (b : Book) → active_in i b ≡ None → Quiet i b
 quiet_from_none i b e =
@@ -127,12 +111,7 @@ pub record Acts (i : ℕ) (b : Book) (a : Order) : Type 0 where
 
 giving_some : (m w : ℕ) (os : List Order) (c : Order) → In c os → max m 1 ≤ gives c.term c.left w → is_some (first_giving m w os) ≡ true
 giving_some m w [] c i h = absurd i
-giving_some m w (x ∷ os) c i h =
-    cond_both (leb (max m 1) (gives x.term x.left w)) (Some x) (first_giving m w os) (λ r. is_some r ≡ true) (λ _. refl)
-    (λ f. elim i [
-      | inl e ↦ absurd (let low = leb-false _ _ f in let same = ap (λ (y : Order). gives y.term y.left w) e in omega arith)
-      | inr j ↦ giving_some m w os c j h
-    ])
+giving_some m w (x ∷ os) c i h = let ih = giving_some m w os c in grind (arith, nat_tests)
 
 -- two plain orders that meet
 facing_trades : (i : ℕ) (s u : Side) (a c : Order) (b : Book) → Sound b → Best i s b a → Best i u b c → opposed s u ≡ true → within s a.price c.price ≡ true → Acts i b a
@@ -157,28 +136,20 @@ crossing_acts i b s (Some x) (Some y) ex ey a e =
     (λ t k. let is : later x y ≡ a = cc in subst (Acts i b) is (cond_both (earlier x y) y x (Acts i b) (λ _. facing_trades i Sell Buy y x b s by bx refl t) (λ _. facing_trades i Buy Sell x y b s bx by refl t)))
     (λ _ k. none_some a k)
 
-by_sides_is : (P : Order → Type 0) (x y e : Option Order) (a : Order) → by_sides x y e ≡ Some a → (x ≡ Some a → P a) → (y ≡ Some a → P a) → (e ≡ Some a → P a) → P a
-by_sides_is P None y e a k fx fy fe = fy k
-by_sides_is P (Some x) None e a k fx fy fe = fx k
-by_sides_is P (Some x) (Some y) e a k fx fy fe = fe k
-
 first_ready_in : (rs : List Order) (a : Order) → first_ready rs ≡ Some a → In a rs
 first_ready_in rs a e =
-    by_sides_is (λ o. In o rs) _ _ (first_by earlier rs) a e
-    (λ k. (in_kept (on_side Buy) rs a (first_tops ahead_ranks (filter (on_side Buy) rs) a k).0).0)
-    (λ k. (in_kept (on_side Sell) rs a (first_tops ahead_ranks (filter (on_side Sell) rs) a k).0).0)
-    (λ k. (first_tops earlier_ranks rs a k).0)
+    let buy = λ (k : first_by ahead (filter (on_side Buy) rs) ≡ Some a). (in_kept (on_side Buy) rs a (first_tops ahead_ranks (filter (on_side Buy) rs) a k).0).0 in
+    let sell = λ (k : first_by ahead (filter (on_side Sell) rs) ≡ Some a). (in_kept (on_side Sell) rs a (first_tops ahead_ranks (filter (on_side Sell) rs) a k).0).0 in
+    let both = λ (k : first_by earlier rs ≡ Some a). (first_tops earlier_ranks rs a k).0 in
+    grind arith
 
 ready_acts : (i : ℕ) (b : Book) (o : Order) → In o (filter (ready i b) b) → Acts i b o
 ready_acts i b o j =
     let k = in_kept (ready i b) b o j in
-    let p = and_parts (special_in i o) (any_trade (attempt o b)) k.1 in
-    let q = and_parts (eqb o.issue i) (special o.term && o.working) p.0 in
-    record { live = k.0; trades = p.1; works = (and_parts (special o.term) o.working q.1).1; issue = eqb-true _ _ q.0 }
+    record { live = k.0; trades = grind (arith, nat_tests); works = grind (arith, nat_tests); issue = grind (arith, nat_tests) }
 
 pub or_some : {X A : Type 0} (x y : Option X) (a : X) → option_or x y ≡ Some a → (x ≡ Some a → A) → (y ≡ Some a → A) → A
-or_some None y a e f g = g e
-or_some (Some x) y a e f g = f e
+or_some x y a e f g = grind arith
 
 pub active_acts : (i : ℕ) (b : Book) → Sound b → (a : Order) → active_in i b ≡ Some a → Acts i b a
 active_acts i b s a e =
@@ -190,7 +161,7 @@ pub live_found : (b : Book) → Sound b → (a : Order) → In a b → find a.nu
 live_found b s a i = in_found b (distinct_ascending b s.ascending) a i
 
 any_length : (ts : List Trade) → any_trade ts ≡ true → 1 ≤ length ts
-any_length [] e = absurd (let z : ◌≡◌ {A = ℕ} 0 1 = cc in omega arith)
+any_length [] e = grind arith
 any_length (t ∷ ts) e = omega arith
 
 -- what one round does
@@ -210,41 +181,41 @@ one_round i b a s e =
 -- ---- rounds end
 pub rounds_none : (k i : ℕ) (b : Book) → active_in i b ≡ None → rounds k i b ≡ record { trades = []; count = 0 }
 rounds_none zero i b e = refl
-rounds_none (suc k) i b e = ap (λ o. round o b (λ ts. rounds k i (after ts b))) e
+rounds_none (suc k) i b e = rw e refl
 
 pub rounds_some : (k i : ℕ) (b : Book) (a : Order) → active_in i b ≡ Some a →
     rounds (suc k) i b ≡ record { trades = attempt a b ++ (rounds k i (after (attempt a b) b)).trades; count = suc (rounds k i (after (attempt a b) b)).count }
-rounds_some k i b a e = ap (λ o. round o b (λ ts. rounds k i (after ts b))) e
+rounds_some k i b a e = rw e refl
 
 -- after some rounds: what the rounds that are left give, all rounds give
-pub record Stands (i : ℕ) (b₀ b : Book) (tape₀ tape : List Trade) (end₀ end count : ℕ) : Type 0 where
+pub record Stands (i : ℕ) (b₀ b : Book) (tape₀ tape : List Trade) (end count : ℕ) : Type 0 where
   pub sound : Sound b
   pub room : end + length b ≤ length tape
-  pub traded : end + length b ≤ end₀ + length b₀
-  pub each : end₀ + count ≤ end
-  pub on_tape : written end (rounds (length b₀ - count) i b).trades tape ≡ written end₀ (all_rounds i b₀).trades tape₀
-  pub ends : end + length (rounds (length b₀ - count) i b).trades ≡ end₀ + length (all_rounds i b₀).trades
+  pub traded : end + length b ≤ length b₀
+  pub each : count ≤ end
+  pub on_tape : written end (rounds (length b₀ - count) i b).trades tape ≡ written 0 (all_rounds i b₀).trades tape₀
+  pub ends : end + length (rounds (length b₀ - count) i b).trades ≡ length (all_rounds i b₀).trades
   pub counts : count + (rounds (length b₀ - count) i b).count ≡ (all_rounds i b₀).count
   pub books : after (rounds (length b₀ - count) i b).trades b ≡ after (all_rounds i b₀).trades b₀
 
-pub stands_start : (i : ℕ) (b : Book) (tape : List Trade) (end : ℕ) → Sound b → end + length b ≤ length tape → Stands i b b tape tape end end 0
-stands_start i b tape end s h =
+pub stands_start : (i : ℕ) (b : Book) (tape : List Trade) → Sound b → length b ≤ length tape → Stands i b b tape tape 0 0
+stands_start i b tape s h =
     let z : length b - 0 ≡ length b = omega arith in
     record {
       sound = s;
-      room = h;
+      room = omega (arith, h);
       traded = omega arith;
       each = omega arith;
-      on_tape = ap (λ k. written end (rounds k i b).trades tape) z;
-      ends = ap (λ k. end + length (rounds k i b).trades) z;
+      on_tape = ap (λ k. written 0 (rounds k i b).trades tape) z;
+      ends = let y = ap (λ k. length (rounds k i b).trades) z in omega arith;
       counts = let y = ap (λ k. (rounds k i b).count) z in omega arith;
       books = ap (λ k. after (rounds k i b).trades b) z;
     }
 
-pub stands_turn : (i : ℕ) (b₀ b b' : Book) (tape₀ tape tape' : List Trade) (end₀ end end' count n : ℕ) (a : Order) → Stands i b₀ b tape₀ tape end₀ end count → active_in i b ≡ Some a →
-    tape' ≡ recorded end (attempt_of a.number b) tape → n ≡ length (attempt_of a.number b) → end' ≡ end + n → b' ≡ after (attempt_of a.number b) b → length tape' ≡ length tape →
-    Stands i b₀ b' tape₀ tape' end₀ end' (count + 1)
-stands_turn i b₀ b b' tape₀ tape tape' end₀ end end' count n a h e et en ee eb el =
+pub stands_turn : (i : ℕ) (b₀ b b' : Book) (tape₀ tape tape' : List Trade) (end end' count n : ℕ) (a : Order) → Stands i b₀ b tape₀ tape end count → active_in i b ≡ Some a →
+    tape' ≡ recorded end (attempt_of a.number b) tape → n ≡ length (attempt_of a.number b) → end' ≡ end + n → b' ≡ after (attempt_of a.number b) b →
+    Stands i b₀ b' tape₀ tape' end' (count + 1)
+stands_turn i b₀ b b' tape₀ tape tape' end end' count n a h e et en ee eb =
     let one = one_round i b a h.sound e in
     let ts = attempt a b in
     let k = length b₀ - (count + 1) in
@@ -256,6 +227,7 @@ stands_turn i b₀ b b' tape₀ tape tape' end₀ end end' count n a h e et en e
     let eb' : b' ≡ after ts b = eb ∙ ap (λ l. after l b) one.same in
     let ee' : end' ≡ end + length ts = omega (arith, ee, en, ap length one.same) in
     let et' : tape' ≡ written end ts tape = et ∙ ap (λ l. recorded end l tape) one.same ∙ sym (written_is end ts tape (omega (arith, h.room, one.fewer))) in
+    let el = ap length et' ∙ length_written end ts tape in
     let shorter = ap length eb' in
     record {
       sound = subst Sound (sym eb') (sound_after ts b h.sound);
@@ -274,21 +246,21 @@ stands_turn i b₀ b b' tape₀ tape tape' end₀ end end' count n a h e et en e
       books = ap (λ c. after (rounds k i c).trades c) eb' ∙ sym (ap (λ z. after z b) st ∙ after_append ts us b) ∙ h.books;
     }
 
-pub record Ended (i : ℕ) (b₀ b : Book) (tape₀ tape : List Trade) (end₀ end count : ℕ) : Type 0 where
-  pub on_tape : tape ≡ recorded end₀ (all_rounds i b₀).trades tape₀
-  pub ends : end ≡ end₀ + length (all_rounds i b₀).trades
+pub record Ended (i : ℕ) (b₀ b : Book) (tape₀ tape : List Trade) (end count : ℕ) : Type 0 where
+  pub on_tape : tape ≡ recorded 0 (all_rounds i b₀).trades tape₀
+  pub ends : end ≡ length (all_rounds i b₀).trades
   pub counts : count ≡ (all_rounds i b₀).count
   pub books : b ≡ after (all_rounds i b₀).trades b₀
   pub quiet : Quiet i b
 
-pub stands_end : (i : ℕ) (b₀ b : Book) (tape₀ tape : List Trade) (end₀ end count : ℕ) → Stands i b₀ b tape₀ tape end₀ end count → length tape ≡ length tape₀ → active_in i b ≡ None → Ended i b₀ b tape₀ tape end₀ end count
-stands_end i b₀ b tape₀ tape end₀ end count h l e =
+pub stands_end : (i : ℕ) (b₀ b : Book) (tape₀ tape : List Trade) (end count : ℕ) → Stands i b₀ b tape₀ tape end count → length tape ≡ length tape₀ → active_in i b ≡ None → Ended i b₀ b tape₀ tape end count
+stands_end i b₀ b tape₀ tape end count h l e =
     let stop = rounds_none (length b₀ - count) i b e in
     let st : (rounds (length b₀ - count) i b).trades ≡ [] = ap (λ (r : Rounds). r.trades) stop in
     let sc : (rounds (length b₀ - count) i b).count ≡ 0 = ap (λ (r : Rounds). r.count) stop in
-    let ends : end ≡ end₀ + length (all_rounds i b₀).trades = (let m = ap length st in omega (arith, h.ends)) in
+    let ends : end ≡ length (all_rounds i b₀).trades = (let m = ap length st in omega (arith, h.ends)) in
     record {
-      on_tape = sym (ap (λ ts. written end ts tape) st) ∙ h.on_tape ∙ written_is end₀ (all_rounds i b₀).trades tape₀ (omega (arith, h.room));
+      on_tape = sym (ap (λ ts. written end ts tape) st) ∙ h.on_tape ∙ written_is 0 (all_rounds i b₀).trades tape₀ (omega (arith, h.room));
       ends = ends;
       counts = omega (arith, h.counts);
       books = sym (ap (λ z. after z b) st) ∙ h.books;

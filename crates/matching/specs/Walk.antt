@@ -1,5 +1,5 @@
 -- The walk of an active order over the orders opposite.
-use Rattle.std.specs.Prelude.{ℕ, ◌+◌, ◌-◌, min, max, Bool, cond, ◌&&◌, List, [], ◌∷◌, Some, None, filter, Option, ◌==◌, nat_le}
+use Rattle.std.specs.Prelude.{ℕ, ◌+◌, ◌-◌, min, max, Bool, cond, ◌&&◌, List, [], ◌∷◌, Some, None, filter, find, Option, ◌==◌, nat_le}
 use Rattle.orders.specs.declared.order.Order.{Order}
 use Rattle.orders.specs.declared.order.Term.{Term}
 use Rattle.orders.specs.declared.order.Term.TheVariants.{Plain, All, Least}
@@ -44,8 +44,7 @@ amount (p ∷ ps) = p.quantity + amount ps
 
 -- the first order that gives a part of at least m where w is wanted
 abbrev pub first_giving : ℕ → ℕ → List Order → Option Order
-first_giving m w [] = None
-first_giving m w (o ∷ os) = cond (nat_le (max m 1) (gives o.term o.left w)) (Some o) (first_giving m w os)
+first_giving m w os = find (λ o. nat_le (max m 1) (gives o.term o.left w)) os
 
 -- a least order's first part; then it is plain and walks anew, over all the others
 abbrev pub least_parts : ℕ → Option Order → List Order → List Part

@@ -1,5 +1,5 @@
 // Which of the listed orders are ready.
-ghost use Rattle.std.specs.Prelude.{◌≡◌, length, is_some, filter};
+ghost use Rattle.std.specs.Prelude.{◌≡◌, ◌<◌, length, is_some, filter};
 ghost use Rattle.std.specs.Option.{option_map};
 ghost use Rattle.orders.specs.Rank.{first_by, ahead, earlier};
 ghost use Rattle.orders.specs.Stamps.{stamped};
@@ -13,17 +13,14 @@ use crate::walk::{fills, first_to_give};
 use book::table::Table;
 use orders::order::{Order, Side, Term};
 use orders::rank::Stamped;
-use orders::ranked::{Entries, first};
-use orders::sides::{are_opposed, is_special};
+use orders::ranked::first;
+use orders::sides::is_special;
 
 // Some listed order gives the active order a part of at least m.
 fn is_given(a: &Order, m: u64, rows: &[Listed]) -> bool
     ensures { result ≡ is_some (first_giving m a.now.left (facing a.now rows.now)) }
 {
-    match first_to_give(a, m, rows) {
-        Some(_) => true,
-        None => false,
-    }
+    first_to_give(a, m, rows).is_some()
 }
 
 // The attempt over the listed orders would trade.
@@ -32,7 +29,7 @@ fn would_trade(a: &Order, rows: &[Listed]) -> bool
 {
     match a.term {
         Term::Plain => is_given(a, 1, rows),
-        Term::All => { if a.left > 0 { fills(a, rows) } else { false } }
+        Term::All => a.left > 0 && fills(a, rows),
         Term::Least(m) => is_given(a, m, rows),
     }
 }
@@ -52,24 +49,20 @@ fn is_ready(o: &Order, issue: u64, rows: &[Listed]) -> bool
 fn is_ready_on(o: &Order, issue: u64, side: Side, rows: &[Listed]) -> bool
     ensures { result ≡ ready_on issue side rows.now o.now }
 {
-    !are_opposed(side, o.side) && is_ready(o, issue, rows)
+    o.side == side && is_ready(o, issue, rows)
 }
 
-// The place of the first ready order on the side, by rank: the loop ends at it.
+// The place of the first ready order on the side, by rank. A loop that leaves by `break`, a form that the project has to keep.
 fn ready_place(rows: &[Listed], issue: u64, side: Side) -> Option<usize>
     ensures { result ≡ option_map (λ x. x.place) (first_row (ready_on issue side rows.now) rows.now) }
 {
-    let mut k = 0;
-    let place = loop {
-        if k >= rows.len() {
-            break None;
-        }
-        let row = rows[k];
+    let mut place = None;
+    for row in rows {
         if is_ready_on(&row.order, issue, side, rows) {
-            break Some(row.place);
+            place = Some(row.place);
+            break;
         }
-        k += 1;
-    };
+    }
     place
 }
 
@@ -78,50 +71,25 @@ fn first_on_side(table: &Table, rows: &[Listed], issue: u64, side: Side) -> Opti
     requires { Lists table.now issue rows.now }
     ensures { result ≡ first_by ahead (filter (on_side side) (filter (ready issue (book_of table.now)) (book_of table.now))) }
 {
-    match ready_place(rows, issue, side) {
-        Some(place) => table.get(place),
-        None => None,
-    }
+    let place = ready_place(rows, issue, side)?;
+    table.get(place)
 }
 
-// The ready orders among those listed, to be ranked by stamp.
-#[derive(Drop)]
-struct Ready<'l> {
-    rows: &'l [Listed],
-    issue: u64,
+// The order of a row, to be ranked by its stamp, if it is ready.
+fn ready_row(rows: &[Listed], issue: u64, k: usize) -> Option<Stamped>
+    requires { k < length rows.now }
+    ensures { result ≡ stamped (ready_at issue rows.now k) }
+{
+    let order = rows[k].order;
+    is_ready(&order, issue, rows).then_some(Stamped { order })
 }
 
-impl Entries for Ready<'_> {
-    type Entry = Stamped;
-
-    ghost count = { λ e. length e.rows.now };
-
-    ghost candidate = { λ e k. stamped (ready_at e.issue e.rows.now k) };
-
-    fn places(&self) -> usize {
-        self.rows.len()
-    }
-
-    fn look(&self, place: usize) -> Option<Stamped> {
-        let order = self.rows[place].order;
-        if is_ready(&order, self.issue, self.rows) {
-            Some(Stamped { order })
-        } else {
-            None
-        }
-    }
-}
-
-// The ready order with the lowest stamp.
+// The ready order with the lowest stamp. By `first`, not `min_by_key`, after which it is not proved that no order that passes a `filter` has a lower stamp.
 fn earliest(table: &Table, rows: &[Listed], issue: u64) -> Option<Order>
     requires { Lists table.now issue rows.now }
     ensures { result ≡ first_by earlier (filter (ready issue (book_of table.now)) (book_of table.now)) }
 {
-    let ready = Ready { rows, issue };
-    match first(&ready) {
-        Some((k, _)) => table.get(rows[k].place),
-        None => None,
-    }
+    first(rows.len(), |k| ready_row(rows, issue, k)).map(|(_, found)| found.order)
 }
 
 // The ready order that is active: where both sides have ready orders, the one with the lowest stamp; where one side has, its first by rank.
@@ -129,12 +97,10 @@ pub fn ready_order(table: &Table, rows: &[Listed], issue: u64) -> Option<Order>
     requires { Lists table.now issue rows.now }
     ensures { result ≡ first_ready (filter (ready issue (book_of table.now)) (book_of table.now)) }
 {
+    let buy = first_on_side(table, rows, issue, Side::Buy);
     let sell = first_on_side(table, rows, issue, Side::Sell);
-    match first_on_side(table, rows, issue, Side::Buy) {
-        None => sell,
-        Some(x) => match sell {
-            None => Some(x),
-            Some(_) => earliest(table, rows, issue),
-        },
+    match (buy, sell) {
+        (Some(_), Some(_)) => earliest(table, rows, issue),
+        _ => buy.or(sell),
     }
 }

@@ -1,5 +1,5 @@
 // Walks over listed orders that change nothing.
-ghost use Rattle.std.specs.Prelude.{◌≡◌, ◌≤◌, ◌==◌};
+ghost use Rattle.std.specs.Prelude.{◌≡◌, ◌≤◌, ◌-◌, ◌==◌, fold};
 ghost use Rattle.matching.specs.Walk.{faces, gives, walk, amount, first_giving};
 ghost use Rattle.matching.specs.Listing.{facing};
 
@@ -27,28 +27,29 @@ pub fn offer(term: Term, left: u64, w: u64) -> u64
     }
 }
 
+// What of the active order is still wanted after its walk.
+fn unfilled(a: &Order, rows: &[Listed]) -> u64
+    ensures { result ≡ fold (λ w o. w - gives o.term o.left w) a.now.left (facing a.now rows.now) }
+{
+    rows.iter()
+        .map(|row| row.order)
+        .filter(|o| does_face(a, o))
+        .fold(a.left, |w, o| w - offer(o.term, o.left, w))
+}
+
 // The parts of the active order's walk add up to all that it has left.
 pub fn fills(a: &Order, rows: &[Listed]) -> bool
     ensures { result ≡ (amount (walk a.now.left (facing a.now rows.now)) == a.now.left) }
 {
-    let mut w = a.left;
-    for row in rows {
-        if does_face(a, &row.order) {
-            w -= offer(row.order.term, row.order.left, w);
-        }
-    }
-    w == 0
+    unfilled(a, rows) == 0
 }
 
 // The first listed order that gives the active order a part of at least m.
 pub fn first_to_give(a: &Order, m: u64, rows: &[Listed]) -> Option<Order>
     ensures { result ≡ first_giving m a.now.left (facing a.now rows.now) }
 {
-    let least = m.max(1);
-    for row in rows {
-        if does_face(a, &row.order) && least <= offer(row.order.term, row.order.left, a.left) {
-            return Some(row.order);
-        }
-    }
-    None
+    rows.iter()
+        .map(|row| row.order)
+        .filter(|o| does_face(a, o))
+        .find(|o| m.max(1) <= offer(o.term, o.left, a.left))
 }

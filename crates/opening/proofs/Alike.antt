@@ -1,10 +1,10 @@
 -- Books with the same orders of an issue open it alike: the order of a list plays no part, and no more do other issues.
-use Rattle.std.proofs.Common.{◌≡◌, ℕ, ◌+◌, ◌<◌, Bool, true, false, List, [], ◌∷◌, ◌++◌, map, length, Some, None, filter, Option, sym, refl, ap, ◌∙◌, subst, inl, inr, arith}
-use Rattle.std.proofs.lemmas.Bool.{cases_Bool}
+use Rattle.std.proofs.Common.{◌≡◌, ℕ, ◌+◌, ◌<◌, Bool, true, false, List, [], ◌∷◌, ◌++◌, map, Some, None, filter, Option, sym, refl, ap, ◌∙◌, subst, arith}
 use Rattle.std.proofs.ByRecursion.{All-weaker}
 use Rattle.std.specs.List.{AllByRecursion as EveryOne}
 use Rattle.orders.specs.declared.order.Order.{Order}
 use Rattle.orders.specs.declared.order.Side.{Side}
+use Rattle.opening.specs.declared.candidate.Candidate.{Candidate}
 use Rattle.orders.specs.declared.order.Side.TheVariants.{Buy, Sell}
 use Rattle.orders.specs.Rank.{first_by, in_rank, ahead}
 use Rattle.orders.specs.Search.{In}
@@ -17,7 +17,7 @@ use Rattle.orders.specs.Ranks.{rank_decides}
 use Rattle.orders.proofs.Changes.{distinct_ascending, found_only}
 use Rattle.orders.proofs.Trades.{all_reduced, sound_after}
 use Rattle.orders.proofs.Reductions.{kept_other}
-use Rattle.opening.specs.Opening.{takes_part, taking_part, figures, wins, plain_of, candidates, if_matched, opening_price, pairing, paired, trades_at, trades_if, opening_trades}
+use Rattle.opening.specs.Opening.{takes_part, taking_part, figures, wins, plain_of, candidates, if_matched, opening_price, pairing, trades_at, trades_if, opening_trades}
 use Rattle.opening.specs.Laws.{each_alone, IssuesApart, ListsAlike}
 use Rattle.opening.proofs.Parts.{part_says, plain_words}
 use Rattle.opening.specs.Prices.{wins_ranks, wins_tie, order_candidate, candidate_order}
@@ -31,11 +31,16 @@ module _ (i : ℕ) (b c : Book) (parts : (p : ℕ) (s : Side) → taking_part i 
   same_trades : (r : Option ℕ) → trades_if i b r ≡ trades_if i c r
   same_trades None = refl
   same_trades (Some p) =
-      ap (λ l. paired (length l + length (taking_part i p Sell b)) p l (taking_part i p Sell b)) (parts p Buy)
-      ∙ ap (λ l. paired (length (taking_part i p Buy c) + length l) p (taking_part i p Buy c) l) (parts p Sell)
+      let x = parts p Buy in let y = parts p Sell in cc
 
   same_opening : (close : ℕ) → opening_price i close b ≡ opening_price i close c → opening_trades i close b ≡ opening_trades i close c
-  same_opening close e = same_trades (opening_price i close b) ∙ ap (trades_if i c) e
+  same_opening close e = let s = same_trades (opening_price i close b) in cc
+
+-- a limit of one book is a limit of another with the same orders and figures
+candidates_in : (i close : ℕ) (b c : Book) → ((p : ℕ) → figures i b close p ≡ figures i c close p) → ((o : Order) → In o b → In o c) → (x : Candidate) → In x (candidates i close b) → In x (candidates i close c)
+candidates_in i close b c same to x m =
+    let r = candidate_order i close b x m in
+    subst (λ y. In y (candidates i close c)) (sym (same r.0.price) ∙ r.3) (order_candidate i close c r.0 (to r.0 r.1) r.2)
 
 -- ---- the order of a list plays no part
 module _ (b c : Book) (to : (o : Order) → In o b → In o c) (from : (o : Order) → In o c → In o b) (nb : Distinct number_of b) (nc : Distinct number_of c) (sb : Distinct stamp_of b) where
@@ -50,13 +55,7 @@ module _ (b c : Book) (to : (o : Order) → In o b → In o c) (from : (o : Orde
   same_price i close =
       let fig = same_figures i b c (same_part i) close in
       ap if_matched (same_first wins_ranks (candidates i close b) (candidates i close c)
-      (λ x m.
-      let r = candidate_order i close b x m in
-      subst (λ y. In y (candidates i close c)) (sym (fig r.0.price) ∙ r.3) (order_candidate i close c r.0 (to r.0 r.1) r.2))
-      (λ x m.
-      let r = candidate_order i close c x m in
-      subst (λ y. In y (candidates i close b)) (fig r.0.price ∙ r.3) (order_candidate i close b r.0 (from r.0 r.1) r.2))
-      (λ x y _ _ h k. wins_tie x y h k))
+      (candidates_in i close b c fig to) (candidates_in i close c b (λ p. sym (fig p)) from) (λ x y _ _ h k. wins_tie x y h k))
 
 pub lists_alike : ListsAlike
 lists_alike i close b c to from nb nc sb =
@@ -70,7 +69,7 @@ Only j T = (o : Order) → T o ≡ true → o.issue ≡ j
 
 module _ (i j : ℕ) (ne : i ≡ j → ⊥) (T : Order → Bool) (only : Only j T) where
   fails : (o : Order) → o.issue ≡ i → T o ≡ false
-  fails o e = elim (cases_Bool (T o)) [ inl t ↦ absurd (ne (sym e ∙ only o t)) | inr f ↦ f ]
+  fails o e = grind (arith, only)
 
   -- the order of number n is of the issue i
   abbrev Own : ℕ → Order → Type 0
@@ -102,7 +101,7 @@ module _ (i j : ℕ) (ne : i ≡ j → ⊥) (T : Order → Bool) (only : Only j 
 
 map_alike : {X Y : Type 0} (f g : X → Y) (xs : List X) → ((x : X) → f x ≡ g x) → map f xs ≡ map g xs
 map_alike f g [] e = refl
-map_alike f g (x ∷ xs) e = ap (λ y. y ∷ map f xs) (e x) ∙ ap (λ l. g x ∷ l) (map_alike f g xs e)
+map_alike f g (x ∷ xs) e = let h = e x in let t = map_alike f g xs e in cc
 
 -- so another issue opens as it would have opened before
 other_issue : (i j : ℕ) → (i ≡ j → ⊥) → (close c : ℕ) (b : Book) → Sound b → opening_trades j c (after (opening_trades i close b) b) ≡ opening_trades j c b

@@ -1,13 +1,10 @@
 -- What holds of opening trades: they are fair, and leave the orders that take no part as they are.
 use Rattle.std.proofs.Common.{◌≡◌, ℕ, zero, suc, ◌+◌, ◌≤◌, List, [], ◌∷◌, length, Some, None, Option, sym, refl, ap, ◌∙◌, subst, inl, inr, arith}
-use Rattle.std.proofs.lemmas.Bool.{true≢false}
 use Rattle.std.specs.List.{AllByRecursion as EveryOne}
 use Rattle.orders.specs.declared.order.Order.{Order}
 use Rattle.orders.specs.declared.order.Trade.{Trade}
 use Rattle.orders.specs.declared.order.Side.{Side}
 use Rattle.orders.specs.declared.order.Side.TheVariants.{Buy, Sell}
-use Rattle.orders.specs.declared.order.Term.{Term}
-use Rattle.orders.specs.declared.order.Term.TheVariants.{Plain, Least}
 use Rattle.orders.specs.Orders.{Valid}
 use Rattle.orders.specs.Rank.{first_by, ahead}
 use Rattle.orders.specs.Search.{In}
@@ -15,7 +12,7 @@ use Rattle.orders.specs.Book.{Book, find, reduced, after_trade, after}
 use Rattle.orders.specs.Laws.{Sound, Fair, AllFair}
 use Rattle.orders.specs.Lists.{all_in}
 use Rattle.orders.proofs.Changes.{in_found, distinct_ascending}
-use Rattle.orders.proofs.Trades.{find_other, sound_after, after_append, fair_append, count_trades}
+use Rattle.orders.proofs.Trades.{find_other, sound_after, after_append, fair_append}
 use Rattle.opening.specs.Opening.{pairing, trades_at, trades_if, opening_price, opening_trades, all_trades}
 use Rattle.opening.specs.Laws.{TakesPart, TradesFair, Waits, OthersStay}
 use Rattle.opening.proofs.Parts.{part_says}
@@ -56,9 +53,6 @@ module _ (i p : ℕ) (P : List Trade → Book → Type 0) (nil : (b : Book) → 
   trade_by_trade b h = up_to (length (trades_at i p b)) b h (omega arith)
 
 -- ---- fair
-plain_not : (t : Term) (m : ℕ) → t ≡ Plain → t ≡ Least m → ⊥
-plain_not t m e f = let z : ◌≡◌ {A = ℕ} 0 1 = cc in omega arith
-
 pair_fair : (i p : ℕ) (b : Book) (x y : Order) → Live i p Buy b x → Live i p Sell b y → Fair (pairing p x y) b
 pair_fair i p b x y hx hy =
     let lx = hx.left in
@@ -80,15 +74,12 @@ pair_fair i p b x y hx hy =
       some = omega arith;
       low = hy.part.meets;
       high = hx.part.meets;
-      buy_least = λ m e. absurd (plain_not x.term m hx.part.plain e);
-      sell_least = λ m e. absurd (plain_not y.term m hy.part.plain e);
+      buy_least = λ m e. cc;
+      sell_least = λ m e. cc;
     }
 
 pub trades_at_fair : (i p : ℕ) (b : Book) → Sound b → AllFair (trades_at i p b) b
 trades_at_fair i p = trade_by_trade i p AllFair (λ b. tt) (λ b h x y hx hy ts rest. (pair_fair i p b x y hx hy, rest))
-
-pub few_trades : (i p : ℕ) (b : Book) → Sound b → length (trades_at i p b) + length (after (trades_at i p b) b) ≤ length b
-few_trades i p b h = count_trades (trades_at i p b) b (trades_at_fair i p b h)
 
 pub opening_fair : (i close : ℕ) (b : Book) → Sound b → AllFair (opening_trades i close b) b
 opening_fair i close b h = go (opening_price i close b)
@@ -122,8 +113,6 @@ Apart i p o = (s : Side) → TakesPart i p s o → ⊥
 -- an order that takes part has another number
 other_number : (i p : ℕ) (s : Side) (b : Book) (x o : Order) (n : ℕ) → Live i p s b x → find n b ≡ Some o → Apart i p o → n ≡ x.number → ⊥
 other_number i p s b x o n h e a k =
-    let f = h.live in
-    let g = ap (λ m. find m b) k in
     let same : x ≡ o = cc in
     a s (subst (TakesPart i p s) same h.part)
 
@@ -146,7 +135,7 @@ stays_open i close b h n o e a = go (opening_price i close b) refl
     go (Some p) f = stays_at i p b h n o e (a p f)
 
 waits_apart : (i p : ℕ) (o : Order) → Waits o → Apart i p o
-waits_apart i p o (inl e) s h = true≢false (sym h.working ∙ e)
+waits_apart i p o (inl e) s h = cc
 waits_apart i p o (inr n) s h = n h.plain
 
 stays_all : (i : ℕ) (closes : List ℕ) (b : Book) → Sound b → (n : ℕ) (o : Order) → find n b ≡ Some o → Waits o → find n (after (all_trades i closes b) b) ≡ Some o

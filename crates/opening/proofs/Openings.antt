@@ -1,21 +1,16 @@
 -- The opening price in words.
-use Rattle.std.proofs.Common.{◌≡◌, ℕ, zero, suc, ◌≤◌, Bool, false, eqb, ltb, List, Some, None, Option, sym, refl, ap, ◌∙◌, subst, arith, MatchOption}
-use Prim.Native.Nat.{compare}
-use Rattle.std.proofs.lemmas.Bool.{cond-true, cond-false, eqb-true, eqb-false, eq-eqb, ne_eqb, ltb-false}
+use Rattle.std.proofs.Common.{◌≡◌, ℕ, ◌≤◌, false, List, Some, None, Option, sym, refl, ap, ◌∙◌, subst, arith, MatchOption}
 use Rattle.std.proofs.lemmas.Bool.Decides.{nat_tests}
-use Rattle.orders.specs.Rank.{first_by, lex}
+use Rattle.orders.specs.Rank.{first_by}
 use Rattle.orders.specs.Search.{In}
 use Rattle.orders.specs.Book.{Book}
-use Rattle.orders.specs.Lists.{none_some, some_none, cond_either}
+use Rattle.orders.specs.Lists.{none_some}
 use Rattle.orders.specs.Firsts.{first_tops, first_none}
 use Rattle.opening.specs.declared.candidate.Candidate.{Candidate}
 use Rattle.opening.specs.Opening.{distance, matched_at, surplus_at, figures, wins, candidates, if_matched, opening_price}
 use Rattle.opening.specs.Laws.{Limit, Opens, Unmatched, PricesOpen}
 use Rattle.opening.proofs.Parts.{plain_words, words_plain}
 use Rattle.opening.specs.Prices.{wins_ranks, order_candidate, candidate_order}
-
-lex_no : (a b : ℕ) (t : Bool) → lex (compare a b) t ≡ false → (b ≤ a) × (a ≡ b → t ≡ false)
-lex_no a b t h = (grind (arith, nat_tests), λ e. grind (arith, nat_tests))
 
 -- what it means that x does not win against y
 record Behind (x y : Candidate) : Type 0 where
@@ -25,11 +20,12 @@ record Behind (x y : Candidate) : Type 0 where
   highest : x.matched ≡ y.matched → x.surplus ≡ y.surplus → x.away ≡ y.away → x.price ≤ y.price
 
 behind : (x y : Candidate) → wins x y ≡ false → Behind x y
-behind x y h =
-    let a = lex_no y.matched x.matched _ h in
-    let b : (x.matched ≡ y.matched) → (y.surplus ≤ x.surplus) × (x.surplus ≡ y.surplus → lex (compare x.away y.away) (ltb y.price x.price) ≡ false) = λ m. lex_no x.surplus y.surplus _ (a.1 (sym m)) in
-    let c : (x.matched ≡ y.matched) → (x.surplus ≡ y.surplus) → (y.away ≤ x.away) × (x.away ≡ y.away → ltb y.price x.price ≡ false) = λ m s. lex_no x.away y.away _ ((b m).1 s) in
-    record { most = a.0; least = λ m. (b m).0; nearest = λ m s. (c m s).0; highest = λ m s d. ltb-false _ _ ((c m s).1 d) }
+behind x y h = record {
+  most = grind (arith, nat_tests);
+  least = λ m. grind (arith, nat_tests);
+  nearest = λ m s. grind (arith, nat_tests);
+  highest = λ m s d. grind (arith, nat_tests);
+}
 
 module _ (i close : ℕ) (b : Book) where
   abbrev cs : List Candidate
@@ -64,21 +60,16 @@ module _ (i close : ℕ) (b : Book) where
       let a : c.away ≡ distance c.price close = ap (λ x. x.away) w.figured in
       record {
         limit = w.limit;
-        trades = subst (λ n. 1 ≤ n) m some;
-        most = λ l h. subst (λ n. matched_at i b l ≤ n) m (w.over l h).most;
-        least = λ l h e. subst (λ n. n ≤ surplus_at i b l) s ((w.over l h).least (e ∙ sym m));
-        nearest = λ l h e f. subst (λ n. n ≤ distance l close) a ((w.over l h).nearest (e ∙ sym m) (f ∙ sym s));
-        highest = λ l h e f g. (w.over l h).highest (e ∙ sym m) (f ∙ sym s) (g ∙ sym a);
+        trades = omega arith;
+        most = λ l h. let v = w.over l h in omega arith;
+        least = λ l h e. let v = w.over l h in omega arith;
+        nearest = λ l h e f. let v = w.over l h in omega arith;
+        highest = λ l h e f g. let v = w.over l h in omega arith;
       }
-
-  some_or_none : (n : ℕ) → (n ≡ 0 → ⊥) → 1 ≤ n
-  some_or_none zero h = absurd (h refl)
-  some_or_none (suc n) h = omega arith
 
   chosen : (c : Candidate) (p : ℕ) → if_matched (Some c) ≡ Some p → (c.price ≡ p) × (1 ≤ c.matched)
   chosen c p e =
-      cond_either (eqb c.matched 0) None (Some c.price) (λ r. r ≡ Some p) e
-      (λ _ f. none_some p f) (λ z f. (cc, some_or_none c.matched (eqb-false _ _ z)))
+      (grind (arith, nat_tests), grind (arith, nat_tests))
 
   present : (o : Option Candidate) → first_by wins cs ≡ o → (p : ℕ) → if_matched o ≡ Some p → Opens i close b p
   present None e p k = none_some p k
@@ -87,14 +78,13 @@ module _ (i close : ℕ) (b : Book) where
   absent : (o : Option Candidate) → first_by wins cs ≡ o → if_matched o ≡ None → Unmatched i b
   absent None e k l h = absurd (subst (In (figures i b close l)) (first_none wins cs e) (limit_in l h))
   absent (Some c) e k l h =
-      cond_either (eqb c.matched 0) None (Some c.price) (λ r. r ≡ None) k
-      (λ z _. let a = eqb-true _ _ z in let w = ((winner c e).over l h).most in omega arith) (λ _ f. some_none c.price f)
+      let w = ((winner c e).over l h).most in grind (arith, nat_tests)
 
   nothing : (o : Option Candidate) → first_by wins cs ≡ o → Unmatched i b → if_matched o ≡ None
   nothing None e h = refl
   nothing (Some c) e h =
       let w = winner c e in
-      cond-true (eqb c.matched 0) None (Some c.price) (eq-eqb _ _ (ap (λ x. x.matched) w.figured ∙ h c.price w.limit))
+      let m = ap (λ x. x.matched) w.figured ∙ h c.price w.limit in grind (arith, nat_tests)
 
   only : (o : Option Candidate) → first_by wins cs ≡ o → (p : ℕ) → Opens i close b p → if_matched o ≡ Some p
   only None e p h = absurd (subst (In (figures i b close p)) (first_none wins cs e) (limit_in p h.limit))
@@ -105,20 +95,13 @@ module _ (i close : ℕ) (b : Book) where
       let s : c.surplus ≡ surplus_at i b l = ap (λ x. x.surplus) w.figured in
       let a : c.away ≡ distance l close = ap (λ x. x.away) w.figured in
       let v = w.over p h.limit in
-      let m1 = v.most in
-      let m2 = h.most l w.limit in
-      let em : matched_at i b p ≡ c.matched = omega arith in
-      let s1 = v.least em in
-      let s2 = h.least l w.limit (sym m ∙ sym em) in
-      let es : surplus_at i b p ≡ c.surplus = omega arith in
-      let a1 = v.nearest em es in
-      let a2 = h.nearest l w.limit (sym m ∙ sym em) (sym s ∙ sym es) in
-      let ea : distance p close ≡ c.away = omega arith in
-      let p1 = v.highest em es ea in
-      let p2 = h.highest l w.limit (sym m ∙ sym em) (sym s ∙ sym es) (sym a ∙ sym ea) in
-      let ep : c.price ≡ p = omega arith in
+      let most = h.most l w.limit in
+      let least = h.least l w.limit in
+      let nearest = h.nearest l w.limit in
+      let highest = h.highest l w.limit in
+      let ep : c.price ≡ p = grind arith in
       let some = h.trades in
-      cond-false (eqb c.matched 0) None (Some c.price) (ne_eqb _ _ (λ z. omega arith)) ∙ ap Some ep
+      grind (arith, nat_tests)
 
 pub prices_open : PricesOpen
 prices_open i close b =

@@ -1,8 +1,9 @@
 -- Buys and sells that pair in rank order.
-use Rattle.std.proofs.Common.{◌≡◌, ℕ, zero, suc, ◌+◌, ◌-◌, ◌≤◌, min, eqb, List, [], ◌∷◌, length, sum_by, refl, ap, inl, inr, arith}
-use Rattle.std.proofs.lemmas.Bool.{cond_both, cases_lt, eqb-true, eqb-false}
+use Rattle.std.proofs.Common.{◌≡◌, ℕ, zero, suc, ◌+◌, ◌-◌, ◌≤◌, min, List, [], ◌∷◌, length, sum_by, refl, ap, arith}
 use Rattle.std.proofs.lemmas.List.Sums.{sum_by-cons}
+use Rattle.std.proofs.lemmas.Bool.Decides.{nat_tests}
 use Rattle.orders.specs.declared.order.Order.{Order}
+use Rattle.orders.specs.declared.order.Trade.{Trade}
 use Rattle.orders.specs.declared.order.Side.TheVariants.{Buy, Sell}
 use Rattle.orders.specs.Book.{Book, lowered, if_left}
 use Rattle.opening.specs.Opening.{taking_part, pairing, paired, trades_at, matched_at}
@@ -10,11 +11,7 @@ use Rattle.opening.specs.Opening.{taking_part, pairing, paired, trades_at, match
 -- one of the two ends
 pub ends : (x y : Order) (bs ss : List Order) → length (if_left (lowered (min x.left y.left) x) bs) + length (if_left (lowered (min x.left y.left) y) ss) ≤ length bs + suc (length ss)
 ends x y bs ss =
-    let q = min x.left y.left in
-    cond_both (eqb (x.left - q) 0) bs (lowered q x ∷ bs) (λ l. length l + length (if_left (lowered q y) ss) ≤ length bs + suc (length ss))
-    (λ e. cond_both (eqb (y.left - q) 0) ss (lowered q y ∷ ss) (λ m. length bs + length m ≤ length bs + suc (length ss)) (λ _. omega arith) (λ _. omega arith))
-    (λ e. cond_both (eqb (y.left - q) 0) ss (lowered q y ∷ ss) (λ m. suc (length bs) + length m ≤ length bs + suc (length ss)) (λ _. omega arith)
-    (λ f. absurd (let g = eqb-false _ _ e in let h = eqb-false _ _ f in elim (cases_lt x.left y.left) [ inl l ↦ g (omega arith) | inr l ↦ h (omega arith) ])))
+    grind (arith, nat_tests)
 
 -- so any k of both lengths at least gives the same trades
 pub paired_enough : (p k m : ℕ) (bs ss : List Order) → length bs + length ss ≤ k → length bs + length ss ≤ m → paired k p bs ss ≡ paired m p bs ss
@@ -42,9 +39,8 @@ no_sells (suc k) p (x ∷ bs) = refl
 -- ---- the trades add up to the lesser of both sums
 sum_if_left : (q : ℕ) (o : Order) (os : List Order) → sum_by (λ o. o.left) (if_left (lowered q o) os) ≡ (o.left - q) + sum_by (λ o. o.left) os
 sum_if_left q o os =
-    cond_both (eqb (o.left - q) 0) os (lowered q o ∷ os) (λ l. sum_by (λ o. o.left) l ≡ (o.left - q) + sum_by (λ o. o.left) os)
-    (λ e. let z = eqb-true _ _ e in omega arith)
-    (λ _. sum_by-cons (λ o. o.left) (lowered q o) os)
+    let c = sum_by-cons (λ o. o.left) (lowered q o) os in
+    grind (arith, nat_tests)
 
 paired_sum : (k p : ℕ) (bs ss : List Order) → length bs + length ss ≤ k → sum_by (λ t. t.quantity) (paired k p bs ss) ≡ min (sum_by (λ o. o.left) bs) (sum_by (λ o. o.left) ss)
 paired_sum zero p [] ss h = omega arith
@@ -53,16 +49,9 @@ paired_sum (suc k) p [] ss h = omega arith
 paired_sum (suc k) p (x ∷ bs) [] h = omega arith
 paired_sum (suc k) p (x ∷ bs) (y ∷ ss) h =
     let q = min x.left y.left in
-    let B = if_left (lowered q x) bs in
-    let S = if_left (lowered q y) ss in
     let e = ends x y bs ss in
-    let ih = paired_sum k p B S (omega arith) in
-    let a = sum_by-cons (λ t. t.quantity) (pairing p x y) (paired k p B S) in
-    let b = sum_by-cons (λ o. o.left) x bs in
-    let c = sum_by-cons (λ o. o.left) y ss in
-    let d = sum_if_left q x bs in
-    let f = sum_if_left q y ss in
-    omega arith
+    let rest = paired_sum k p (if_left (lowered q x) bs) (if_left (lowered q y) ss) (omega arith) in
+    omega (arith, sum_by-cons {X = Order}, sum_by-cons {X = Trade}, sum_if_left)
 
 pub trades_sum : (i p : ℕ) (b : Book) → sum_by (λ t. t.quantity) (trades_at i p b) ≡ matched_at i b p
 trades_sum i p b = paired_sum _ p (taking_part i p Buy b) (taking_part i p Sell b) (omega arith)

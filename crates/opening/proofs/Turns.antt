@@ -1,9 +1,8 @@
 -- The next trade at a price joins the first buy and the first sell by rank, and the others follow on the book that it leaves.
-use Rattle.std.proofs.Common.{◌≡◌, ℕ, suc, ◌+◌, min, true, false, List, [], ◌∷◌, length, Some, None, filter, sym, refl, ap, ◌∙◌, subst, arith}
+use Rattle.std.proofs.Common.{◌≡◌, ℕ, suc, ◌+◌, min, true, false, List, [], ◌∷◌, length, Some, None, filter, sym, refl, ap, ◌∙◌, arith}
 use Rattle.std.proofs.ByRecursion.{kept_by_passes, All-weaker}
 use Rattle.std.specs.List.{AllByRecursion as EveryOne}
 use Rattle.orders.specs.declared.order.Order.{Order}
-use Rattle.orders.specs.declared.order.Trade.{Trade}
 use Rattle.orders.specs.declared.order.Side.{Side}
 use Rattle.orders.specs.declared.order.Side.TheVariants.{Buy, Sell}
 use Rattle.orders.specs.declared.order.Term.TheVariants.{Plain}
@@ -45,11 +44,11 @@ module _ (i p : ℕ) where
   owns : (s : Side) (b : Book) → Distinct number_of b → (w : Order) → In w b → takes_part i p s w ≡ true → EveryOne (Own s w.number) b
   owns s b d w m t =
       in_all (Own s w.number) b
-      (λ o j e. subst (λ z. (z.term ≡ Plain) × (takes_part i p s z ≡ true)) (sym (one_of number_of b d o w j m e)) ((part_says i p s w t).plain, t))
+      (λ o j e. let same = one_of number_of b d o w j m e in let plain = (part_says i p s w t).plain in (cc, cc))
 
   others : (s d : Side) (b : Book) → Distinct number_of b → (w : Order) → In w b → w.side ≡ d → opposed s d ≡ true → EveryOne (Other s w.number) b
   others s d b di w m e t =
-      in_all (Other s w.number) b (λ o j k. ap (λ z. opposed s z.side) (one_of number_of b di o w j m k) ∙ ap (opposed s) e ∙ t)
+      in_all (Other s w.number) b (λ o j k. let same = one_of number_of b di o w j m k in cc)
 
   kept_owned : (s : Side) (n q : ℕ) (b : Book) → EveryOne (Own s n) b → in_part s (reduced n q b) ≡ reduced n q (in_part s b)
   kept_owned s n q b h =
@@ -101,29 +100,21 @@ module _ (i p : ℕ) where
         let tb : taking_part i p Buy d ≡ B = turned Buy q x d ex buys in
         let ts : taking_part i p Sell d ≡ S = turned Sell q y d ey sells in
         let e = ends x y bs ss in
-        let k : suc (length bs) + suc (length ss) ≡ suc (length bs + suc (length ss)) = omega arith in
-        ap (λ l. paired (length l + length (taking_part i p Sell b)) p l (taking_part i p Sell b)) (headed Buy x ex)
-        ∙ ap (λ l. paired (length (x ∷ bs) + length l) p (x ∷ bs) l) (headed Sell y ey)
-        ∙ ap (λ n. paired n p (x ∷ bs) (y ∷ ss)) k
-        ∙ ap (λ l. pairing p x y ∷ l)
-        (paired_enough p (length bs + suc (length ss)) (length B + length S) B S (omega arith) (omega arith)
-        ∙ sym (ap (λ l. paired (length l + length (taking_part i p Sell d)) p l (taking_part i p Sell d)) tb ∙ ap (λ l. paired (length B + length l) p B l) ts))
-
-    -- the same of a trade t that was made, and of the book c after it
-    pub made : (x y : Order) → Some x ≡ first_by ahead (in_part Buy b) → Some y ≡ first_by ahead (in_part Sell b) → (t : Trade) (c : Book) → t ≡ pairing p x y → c ≡ after_trade (pairing p x y) b →
-        (trades_at i p b ≡ t ∷ trades_at i p c) × (c ≡ after_trade t b)
-    made x y ex ey t c e f = (
-      next x y (sym ex) (sym ey) ∙ ap (λ d. pairing p x y ∷ trades_at i p d) (sym f) ∙ ap (λ r. r ∷ trades_at i p c) (sym e),
-      f ∙ ap (λ r. after_trade r b) (sym e),
-    )
+        let n = length bs + suc (length ss) in
+        let bx = headed Buy x ex in
+        let sy = headed Sell y ey in
+        let k : length (x ∷ bs) + length (y ∷ ss) ≡ suc n = omega arith in
+        let one : paired (suc n) p (x ∷ bs) (y ∷ ss) ≡ pairing p x y ∷ paired n p B S = refl in
+        let more = paired_enough p n (length B + length S) B S (omega arith) (omega arith) in
+        cc
 
   -- ---- none where a side has none
   pub no_buy : (b : Book) → first_by ahead (in_part Buy b) ≡ None → trades_at i p b ≡ []
   no_buy b e =
       let z : taking_part i p Buy b ≡ [] = ap (in_rank ahead) (first_none ahead (in_part Buy b) e) in
-      ap (λ l. paired (length l + length (taking_part i p Sell b)) p l (taking_part i p Sell b)) z ∙ no_buys _ p (taking_part i p Sell b)
+      rw z (no_buys _ p (taking_part i p Sell b))
 
   pub no_sell : (b : Book) → first_by ahead (in_part Sell b) ≡ None → trades_at i p b ≡ []
   no_sell b e =
       let z : taking_part i p Sell b ≡ [] = ap (in_rank ahead) (first_none ahead (in_part Sell b) e) in
-      ap (λ l. paired (length (taking_part i p Buy b) + length l) p (taking_part i p Buy b) l) z ∙ no_sells _ p (taking_part i p Buy b)
+      rw z (no_sells _ p (taking_part i p Buy b))

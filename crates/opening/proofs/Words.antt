@@ -1,6 +1,5 @@
 -- The opening trades in words.
-use Rattle.std.proofs.Common.{◌≡◌, ℕ, ◌≤◌, false, [], Some, None, sum_by, Option, sym, refl, ap, ◌∙◌, subst, inl, inr, arith}
-use Rattle.std.proofs.lemmas.Bool.{cases_Bool}
+use Rattle.std.proofs.Common.{◌≡◌, ℕ, ◌≤◌, false, [], Some, None, sum_by, Option, sym, refl, ap, ◌∙◌, subst, arith}
 use Rattle.orders.specs.declared.order.Order.{Order}
 use Rattle.orders.specs.declared.order.Side.{Side}
 use Rattle.orders.specs.declared.order.Side.TheVariants.{Buy, Sell}
@@ -45,10 +44,9 @@ module _ (i p : ℕ) (b : Book) (h : Sound b) where
       not_ahead y m =
           let k = in_kept (takes_part i p s) b y m in
           let t = part_says i p s y k.1 in
-          elim (cases_Bool (ahead y x)) [
-            | inl e ↦ absurd (w.first y k.0 t ((rank_said y x (t.side ∙ sym w.part.side)).0 e))
-            | inr e ↦ e
-          ]
+          let first = w.first y k.0 t in
+          let said = (rank_said y x (t.side ∙ sym w.part.side)).0 in
+          grind arith
 
       go : (r : Option Order) → first_by ahead (in_part i p s b) ≡ r → first_by ahead (in_part i p s b) ≡ Some x
       go None e = absurd (subst (In x) (first_none ahead (in_part i p s b) e) mine)

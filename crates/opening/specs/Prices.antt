@@ -1,6 +1,6 @@
 -- The rank of candidates, and the search over the places for the first of them.
 use Rattle.std.specs.Prelude.{◌≡◌, ℕ, Bool, true, false, List, [], ◌∷◌, map, Some, None, filter, Option, nat_lt, refl}
-use Rattle.std.proofs.Common.{sym, ap, subst, ◌∙◌, inl, inr, arith}
+use Rattle.std.proofs.Common.{ap, subst, ◌∙◌, inl, inr, arith}
 use Prim.Native.Nat.{compare}
 use Rattle.std.proofs.lemmas.Bool.{cond-true}
 use Rattle.std.proofs.lemmas.Bool.Decides.{nat_tests}
@@ -12,37 +12,22 @@ use Rattle.orders.specs.Rank.{first_by, lex}
 use Rattle.orders.specs.Search.{In, First}
 use Rattle.orders.specs.Book.{Book}
 use Rattle.book.specs.Table.{book_of, at_place}
-use Rattle.orders.specs.Lists.{none_some, cond_either, in_kept, kept_in}
+use Rattle.orders.specs.Lists.{none_some, in_kept, kept_in}
 use Rattle.orders.specs.Firsts.{searched}
 use Rattle.book.proofs.Tables.{place_in, in_place}
 use Rattle.opening.specs.declared.candidate.Candidate.{Candidate}
 use Rattle.opening.specs.Opening.{figures, wins, plain_of, candidates, limit_of}
 
 -- ---- a comparison of numbers, and then another test
-lex_not : (a b : ℕ) (s t : Bool) → lex (compare a b) s ≡ true → (s ≡ true → t ≡ false) → lex (compare b a) t ≡ false
-lex_not a b s t h k = grind (arith, nat_tests)
-
 lex_chain : (a b c : ℕ) (s t u : Bool) → lex (compare a b) s ≡ false → lex (compare b c) t ≡ false → (s ≡ false → t ≡ false → u ≡ false) → lex (compare a c) u ≡ false
 lex_chain a b c s t u h k m = grind (arith, nat_tests)
-
-lex_tie : (a b : ℕ) (s t : Bool) → lex (compare a b) s ≡ false → lex (compare b a) t ≡ false → (a ≡ b) × (s ≡ false) × (t ≡ false)
-lex_tie a b s t h k = (grind (arith, nat_tests), grind (arith, nat_tests), grind (arith, nat_tests))
-
-last_not : (a b : ℕ) → nat_lt a b ≡ true → nat_lt b a ≡ false
-last_not a b h = grind (arith, nat_tests)
 
 last_chain : (a b c : ℕ) → nat_lt b a ≡ false → nat_lt c b ≡ false → nat_lt c a ≡ false
 last_chain a b c h k = grind (arith, nat_tests)
 
-last_tie : (a b : ℕ) → nat_lt b a ≡ false → nat_lt a b ≡ false → a ≡ b
-last_tie a b h k = grind (arith, nat_tests)
-
 pub wins_ranks : IsStrictWeakOrder wins
 wins_ranks = record {
-  one_way = λ x y h.
-      lex_not y.matched x.matched _ _ h (λ h.
-      lex_not x.surplus y.surplus _ _ h (λ h.
-      lex_not x.away y.away _ _ h (λ h. last_not y.price x.price h)));
+  one_way = λ x y h. grind (arith, nat_tests);
   chain = λ x y z h k.
       lex_chain z.matched y.matched x.matched _ _ _ k h (λ k h.
       lex_chain x.surplus y.surplus z.surplus _ _ _ h k (λ h k.
@@ -52,20 +37,17 @@ wins_ranks = record {
 -- candidates that tie are one
 pub wins_tie : (x y : Candidate) → wins x y ≡ false → wins y x ≡ false → x ≡ y
 wins_tie x y h k =
-    let a = lex_tie y.matched x.matched _ _ h k in
-    let b = lex_tie x.surplus y.surplus _ _ a.1 a.2 in
-    let c = lex_tie x.away y.away _ _ b.1 b.2 in
-    let d = last_tie x.price y.price c.1 c.2 in
-    same x y d (sym a.0) b.0 c.0
-  where
-    same : (x y : Candidate) → x.price ≡ y.price → x.matched ≡ y.matched → x.surplus ≡ y.surplus → x.away ≡ y.away → x ≡ y
-    same x y p m s a =
-        let f : x ≡ record { price = y.price; matched = y.matched; surplus = y.surplus; away = y.away } = rw (← p, ← m, ← s, ← a) refl in f
+    let p : x.price ≡ y.price = grind (arith, nat_tests) in
+    let m : x.matched ≡ y.matched = grind (arith, nat_tests) in
+    let s : x.surplus ≡ y.surplus = grind (arith, nat_tests) in
+    let a : x.away ≡ y.away = grind (arith, nat_tests) in
+    let same : ◌≡◌ {A = Candidate} (record { price = x.price; matched = x.matched; surplus = x.surplus; away = x.away }) (record { price = y.price; matched = y.matched; surplus = y.surplus; away = y.away }) = cc in
+    same
 
 -- ---- the candidates are the limits of the plain orders
 in_map : {X Y : Type 0} (f : X → Y) (xs : List X) (x : X) → In x xs → In (f x) (map f xs)
 in_map f [] x i = i
-in_map f (y ∷ ys) x i = elim i [ inl e ↦ inl (ap f e) | inr j ↦ inr (in_map f ys x j) ]
+in_map f (y ∷ ys) x i = grind (arith, in_map f ys x)
 
 map_in : {X Y : Type 0} (f : X → Y) (xs : List X) (y : Y) → In y (map f xs) → (x : X) × (In x xs) × (f x ≡ y)
 map_in f [] y i = absurd i
@@ -83,9 +65,7 @@ candidate_order i close b c m =
 -- ---- and a search over the places finds the first
 limit_some : (i close : ℕ) (b : Book) (r : Option Order) (c : Candidate) → limit_of i close b r ≡ Some c → (o : Order) × (r ≡ Some o) × (plain_of i o ≡ true) × (figures i b close o.price ≡ c)
 limit_some i close b None c e = none_some c e
-limit_some i close b (Some o) c e =
-    cond_either (plain_of i o) (Some (figures i b close o.price)) None (λ r. r ≡ Some c) e
-    (λ t f. (o, refl, t, cc)) (λ _ f. none_some c f)
+limit_some i close b (Some o) c e = (o, refl, grind arith, grind arith)
 
 pub best_candidate : (i close : ℕ) (t : Table) (best : Option (ℕ × Candidate)) → First wins (λ k. limit_of i close (book_of t) (at_place t k)) 256 best →
     option_map (λ b. b.1) best ≡ first_by wins (candidates i close (book_of t))

@@ -3,6 +3,6 @@
 
 mod candidate;
 pub mod laws;
+mod level;
 pub mod price;
-mod quantities;
 pub mod trades;

@@ -1,35 +1,31 @@
 // The opening price of an issue.
-ghost use Rattle.std.specs.Prelude.{◌≡◌, min, MatchOption};
-ghost use Rattle.std.specs.Option.{option_map};
+ghost use Rattle.std.specs.Prelude.{◌≡◌, ◌<◌, MatchOption};
 ghost use Rattle.orders.specs.Rank.{first_by};
 ghost use Rattle.book.specs.Table.{book_of, at_place};
-ghost use Rattle.opening.specs.Opening.{distance, figures, wins, plain_of, candidates, limit_of, opening_price};
+ghost use Rattle.opening.specs.Opening.{figures, wins, plain_of, candidates, limit_of, opening_price};
 ghost use Rattle.opening.specs.Laws.{Opens, Unmatched};
 
 use crate::candidate::Candidate;
-use crate::quantities::{PLACES, quantity_at};
+use crate::level::Level;
 use book::table::Table;
 use orders::order::{Order, Side};
-use orders::ranked::{Entries, first};
+use orders::ranked::first;
 use orders::sides::is_special;
+use orders::strip::PLACES;
 
-fn distance_of(x: u64, y: u64) -> u64
-    ensures { result ≡ distance x y }
-{
-    if x < y { y - x } else { x - y }
-}
-
-// The figures of a price.
+// The figures of a price. Table, issue and close stay arguments here and below: with methods of a struct of the three each clause would read
+// `self.now.table.now` for `table.now`, and the check does not find `candidate_at` alone.
 fn figures_of(table: &Table, issue: u64, close: u64, price: u64) -> Candidate
     ensures { result ≡ figures issue (book_of table.now) close price }
 {
-    let buys = quantity_at(table, issue, price, Side::Buy);
-    let sells = quantity_at(table, issue, price, Side::Sell);
+    let level = Level { issue, price };
+    let buys = level.quantity(table, Side::Buy);
+    let sells = level.quantity(table, Side::Sell);
     Candidate {
         price,
         matched: buys.min(sells),
-        surplus: distance_of(buys, sells),
-        away: distance_of(price, close),
+        surplus: buys.abs_diff(sells),
+        away: price.abs_diff(close),
     }
 }
 
@@ -40,48 +36,21 @@ fn is_plain_of(o: &Order, issue: u64) -> bool
     o.issue == issue && o.working && !is_special(o.term)
 }
 
-// The limits of an issue's working plain orders.
-#[derive(Drop)]
-struct Limits<'t> {
-    table: &'t Table,
-    issue: u64,
-    close: u64,
-}
-
-impl Entries for Limits<'_> {
-    type Entry = Candidate;
-
-    ghost count = { λ _. 256 };
-
-    ghost candidate = { λ e k. limit_of e.issue e.close (book_of e.table.now) (at_place e.table.now k) };
-
-    fn places(&self) -> usize {
-        PLACES
-    }
-
-    fn look(&self, place: usize) -> Option<Candidate> {
-        match self.table.get(place) {
-            Some(o) => {
-                if is_plain_of(&o, self.issue) {
-                    Some(figures_of(self.table, self.issue, self.close, o.price))
-                } else {
-                    None
-                }
-            }
-            None => None,
-        }
-    }
-}
-
-// The candidate that comes before every other, with a place at which it is a limit.
-fn best_candidate(table: &Table, issue: u64, close: u64) -> Option<(usize, Candidate)>
-    ensures { option_map (λ b. b.1) result ≡ first_by wins (candidates issue close (book_of table.now)) }
+// The figures of the limit of the order at a place, if it is a working plain order of the issue.
+fn candidate_at(table: &Table, issue: u64, close: u64, place: usize) -> Option<Candidate>
+    ensures { result ≡ limit_of issue close (book_of table.now) (at_place table.now place) }
 {
-    first(&Limits {
-        table,
-        issue,
-        close,
-    })
+    table
+        .get(place)
+        .filter(|o| is_plain_of(o, issue))
+        .map(|o| figures_of(table, issue, close, o.price))
+}
+
+// The candidate that comes before every other.
+fn best_candidate(table: &Table, issue: u64, close: u64) -> Option<Candidate>
+    ensures { result ≡ first_by wins (candidates issue close (book_of table.now)) }
+{
+    first(PLACES, |place| candidate_at(table, issue, close, place)).map(|(_, c)| c)
 }
 
 // The opening price of an issue, if there is one.
@@ -89,8 +58,7 @@ pub fn opening_price(table: &Table, issue: u64, close: u64) -> Option<u64>
     ensures is { result ≡ opening_price issue close (book_of table.now) }
     ensures opens { MatchOption result (Unmatched issue (book_of table.now)) (λ p. Opens issue close (book_of table.now) p) }
 {
-    match best_candidate(table, issue, close) {
-        Some((_, c)) => { if c.matched == 0 { None } else { Some(c.price) } }
-        None => None,
-    }
+    best_candidate(table, issue, close)
+        .filter(|c| c.matched != 0)
+        .map(|c| c.price)
 }

@@ -6,4 +6,4 @@ use Rattle.matching.proofs.attempt.make.Given as goal
 abbrev pub invariant-loop-t : goal.invariant-loop-t
 invariant-loop-t l =
     (after (drop l.t-index l.trades) (book_of l.table) ≡ after l.trades (book_of l.initial.table))
-    × (l.table.number ≡ l.initial.table.number) × (l.table.stamp ≡ l.initial.table.stamp)
+    × (l.table.given ≡ l.initial.table.given)

@@ -1,12 +1,9 @@
-use Rattle.std.proofs.Common.{◌∙◌}
+use Rattle.std.proofs.Common.{sym, ◌∙◌}
 use Rattle.matching.proofs.Readiness.{side_placed, side_absent}
 use Rattle.matching.proofs.ready.first_on_side.Goals as goal
 
-pub get-requires : goal.get-requires
-get-requires c = (side_placed c.args.table.now c.args.issue c.args.side c.args.rows.now c.requires c.in-Some.place c.in-Some.ensures).0
+pub returns-in_err-place : goal.returns-in_err-place
+returns-in_err-place c = c.from_residual.ensures ∙ side_absent c.args.table.now c.args.issue c.args.side c.args.rows.now c.requires (sym c.in_err-place.was ∙ c.ready_place.ensures)
 
-pub returns-in-Some : goal.returns-in-Some
-returns-in-Some c = c.get.ensures ∙ (side_placed c.args.table.now c.args.issue c.args.side c.args.rows.now c.requires c.in-Some.place c.in-Some.ensures).1
-
-pub returns-in-None : goal.returns-in-None
-returns-in-None c = side_absent c.args.table.now c.args.issue c.args.side c.args.rows.now c.requires c.in-None.ensures
+pub returns : goal.returns
+returns c = c.get.ensures ∙ (side_placed c.args.table.now c.args.issue c.args.side c.args.rows.now c.requires c.in_ok-place.place (sym c.in_ok-place.was ∙ c.ready_place.ensures)).1

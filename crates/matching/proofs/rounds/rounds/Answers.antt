@@ -1,52 +1,46 @@
 use Rattle.std.proofs.Common.{◌+◌, length, sym, refl, ap, ◌∙◌, arith}
-use Rattle.orders.specs.Strip.{clean}
 use Rattle.book.specs.Table.{book_of}
 use Rattle.book.proofs.Tables.{sound_table}
+use Rattle.matching.specs.Attempt.{attempt_of}
 use Rattle.matching.proofs.Settling.{stands_start, one_round, stands_turn, stands_end}
+use Rattle.orders.proofs.Tapes.{recorded_part}
 use Rattle.matching.proofs.rounds.rounds.Goals as goal
 
 pub loop-a-init : goal.loop-a-init
 loop-a-init c =
     let t = c.args.table.now in
-    (refl, refl, refl, stands_start c.args.issue (book_of t) c.args.tape.now c.args.used (sound_table t) c.requires.room)
-
-pub active-requires : goal.active-requires
-active-requires c = ap clean c.loop-a.invariant.0 ∙ c.requires.strip
-
-pub attempt-end-requires : goal.attempt-end-requires
-attempt-end-requires c = record { strip = ap clean (c.active.ensures.strip ∙ c.loop-a.invariant.0) ∙ c.requires.strip; room = c.loop-a.invariant.3.room }
+    (refl, refl, stands_start c.args.issue (book_of t) c.args.free.now (sound_table t) c.requires.room)
 
 pub loop-a-smaller : goal.loop-a-smaller
 loop-a-smaller c =
-    let one = one_round c.args.issue (book_of c.loop-a.table) c.in-Some.a c.loop-a.invariant.3.sound (sym c.in-Some.ensures.order) in
+    let one = one_round c.args.issue (book_of c.loop-a.table) c.in-Some.a c.loop-a.invariant.2.sound (sym c.in-Some.ensures.order) in
     omega (arith, one.some, ap length one.same, c.attempt-end.ensures.trades, c.attempt-end.ensures.few)
 
 pub loop-a-preserved : goal.loop-a-preserved
 loop-a-preserved c =
-    let h = c.loop-a.invariant.3 in
-    let done = c.attempt-end.ensures in (
+    let h = c.loop-a.invariant.2 in
+    let done = c.attempt-end.ensures in
+    let on_tape = recorded_part c.loop-a.end _ (attempt_of c.in-Some.a.number (book_of c.loop-a.table)) c.loop-a.free c.attempt-end.new.free refl done.tape in (
       done.strip ∙ c.active.ensures.strip ∙ c.loop-a.invariant.0,
-      done.number ∙ c.loop-a.invariant.1,
-      done.stamp ∙ c.loop-a.invariant.2,
-      stands_turn c.args.issue (book_of c.args.table.now) (book_of c.loop-a.table) (book_of c.attempt-end.new.table) c.args.tape.now c.loop-a.tape c.attempt-end.new.tape
-          c.args.used c.loop-a.end (c.loop-a.end + c.attempt-end.result) c.loop-a.count c.attempt-end.result c.in-Some.a h (sym c.in-Some.ensures.order)
-          done.tape done.trades refl done.book c.attempt-end.auto.tape,
+      done.given ∙ c.loop-a.invariant.1,
+      stands_turn c.args.issue (book_of c.args.table.now) (book_of c.loop-a.table) (book_of c.attempt-end.new.table) c.args.free.now c.loop-a.free _
+          c.loop-a.end (c.loop-a.end + c.attempt-end.result) c.loop-a.count c.attempt-end.result c.in-Some.a h (sym c.in-Some.ensures.order)
+          on_tape done.trades refl done.book,
     )
 
 pub returns : goal.returns
 returns c =
-    let h = c.loop-a.invariant.3 in
-    let e = stands_end c.args.issue (book_of c.args.table.now) (book_of c.loop-a.table) c.args.tape.now c.loop-a.tape c.args.used c.loop-a.end c.loop-a.count h
-    c.loop-a.auto.tape (sym c.active.ensures.order ∙ c.in_default.is) in
+    let h = c.loop-a.invariant.2 in
+    let e = stands_end c.args.issue (book_of c.args.table.now) (book_of c.loop-a.table) c.args.free.now c.loop-a.free c.loop-a.end c.loop-a.count h
+    c.loop-a.auto.free (sym c.active.ensures.order ∙ c.in_default.is) in
     record {
       book = e.books;
-      number = c.loop-a.invariant.1;
-      stamp = c.loop-a.invariant.2;
+      given = c.loop-a.invariant.1;
       tape = e.on_tape;
-      trades = omega (arith, e.ends);
+      trades = e.ends;
       rounds = e.counts;
-      few = omega (arith, h.traded, h.each);
-      each = omega (arith, h.each);
+      few = h.traded;
+      each = h.each;
       quiet = e.quiet;
       strip = c.active.ensures.strip ∙ c.loop-a.invariant.0;
     }

@@ -1,13 +1,20 @@
-use Rattle.std.proofs.Common.{◌≡◌, ◌+◌, ◌≤◌, length, drop}
+use Rattle.std.proofs.Common.{◌≡◌, ◌+◌, ◌≤◌, length}
+use Rattle.std.specs.Iterator.Adapters.{zip_first, zip_second}
+use Rattle.std.specs.Slice.Iter.{iter_rest}
 use Rattle.book.specs.Table.{book_of}
 use Rattle.opening.specs.Opening.{all_trades}
 use Rattle.opening.proofs.Issues.{Rest}
 use Rattle.opening.proofs.trades.open_all.Given as goal
 
-abbrev pub invariant-loop-close : goal.invariant-loop-close
-invariant-loop-close l =
+abbrev pub invariant-loop-issue : goal.invariant-loop-issue
+invariant-loop-issue l =
+    let issue = (zip_first l.issue-iterator).start in
+    let closes = iter_rest (zip_second l.issue-iterator) in
     let b = book_of l.table in
     let b₀ = book_of l.initial.table in
-    (l.issue ≡ l.close-index + 1) × (l.close-index ≤ 16) × (l.used ≤ l.next) × (l.next + length b ≤ l.used + length b₀)
-    × Rest l.next (all_trades l.issue (drop l.close-index l.closes) b) l.tape b l.used (all_trades 1 l.closes b₀) l.initial.tape b₀
-    × (l.table.number ≡ l.initial.table.number) × (l.table.stamp ≡ l.initial.table.stamp)
+    record {
+      issues : issue + length closes ≡ 17;
+      live : l.made + length b ≤ length b₀;
+      rest : Rest l.made (all_trades issue closes b) l.free b (all_trades 1 l.closes b₀) l.initial.free b₀;
+      given : l.table.given ≡ l.initial.table.given;
+    }
