@@ -1,19 +1,22 @@
 -- The state of the rules that a board stands for, with the register's rows and the tape that it is lent. Assumes nothing.
-use Rattle.std.specs.Prelude.{ℕ, ◌+◌, ◌≤◌, min, List, length, take, Some, None, Ok, Err, Option, Result}
+use Rattle.std.specs.Prelude.{◌≡◌, ℕ, ◌+◌, ◌≤◌, true, false, min, List, length, take, Option}
 use Rattle.register.specs.declared.holding.Row.{Row}
 use Rattle.orders.specs.declared.order.Call.{Call}
 use Rattle.orders.specs.declared.order.Trade.{Trade}
+use Rattle.orders.specs.declared.order.Term.{Term}
+use Rattle.orders.specs.Orders.{breaks_price, breaks_quantity, breaks_least}
 use Rattle.orders.specs.Strip.{clean}
 use Rattle.book.specs.Table.{book_of}
 use Rattle.rules.specs.declared.fault.MarketFault.{MarketFault}
 use Rattle.rules.specs.Ledger.{Ledger}
-use Rattle.rules.specs.Refusals.{Lent, refusal}
+use Rattle.rules.specs.declared.lent.Lent.{Lent}
+use Rattle.rules.specs.Refusals.{refusal}
 use Rattle.rules.specs.Market.{State}
 use Rattle.board.specs.declared.Board.{Board}
 
 -- the live orders and counters
 abbrev pub ledger_of : Board → Ledger
-ledger_of b = record { phase = b.phase; live = book_of b.table; number = b.table.number; stamp = b.table.stamp; used = b.used }
+ledger_of b = record { phase = b.phase; live = book_of b.table; number = b.table.given.number; stamp = b.table.given.stamp; used = b.used }
 
 abbrev pub state_of : Board → List Row → List Trade → State
 state_of b rows tape = record { ledger = ledger_of b; closes = b.closes; rows = rows; tape = take b.used tape }
@@ -22,19 +25,23 @@ state_of b rows tape = record { ledger = ledger_of b; closes = b.closes; rows = 
 abbrev pub lent_by : List Trade → List ℕ → Lent
 lent_by tape strip = record { clean = clean strip; room = length tape }
 
--- the tape has room for as many trades as there are live orders, and one more
-abbrev pub Fits : Board → List Trade → Type 0
-Fits b tape = b.used + length (book_of b.table) + 1 ≤ min (length tape) 32768
+-- what stands for a tape and a strip where a call is lent none
+abbrev pub no_lent : Lent
+no_lent = record { clean = false; room = 0 }
+
+-- what is lent passes the checks: the strip is clean, and the tape has room for as many trades as there are live orders, and one more
+pub record Usable (b : Board) (lent : Lent) : Type 0 where
+  pub clean : lent.clean ≡ true
+  pub fits : b.used + length (book_of b.table) + 1 ≤ min lent.room 32768
+
+-- a limit, a quantity and a term within their bounds
+abbrev pub Bounded : ℕ → ℕ → Term → Type 0
+Bounded p q t = (breaks_price p ≡ false) × ((breaks_quantity q ≡ false) × (breaks_least t q ≡ false))
 
 -- the records that may be read: those used, as far as the tape goes
 abbrev pub readable : Board → List Trade → ℕ
 readable b tape = min b.used (length tape)
 
--- the fault of a call on a board with this tape, this strip and these rows
-abbrev pub refused : Board → List Trade → List ℕ → List Row → Call → Option MarketFault
-refused b tape strip rs c = refusal (lent_by tape strip) (ledger_of b) rs c
-
--- the fault of a check, none where it passes
-abbrev pub refusal_of : {X : Type 0} → Result X MarketFault → Option MarketFault
-refusal_of (Ok x) = None
-refusal_of (Err f) = Some f
+-- the fault of a call on a board with what is lent and these rows
+abbrev pub refused : Board → Lent → List Row → Call → Option MarketFault
+refused b lent rs c = refusal lent (ledger_of b) rs c

@@ -7,10 +7,10 @@ use book::table::Table;
 use opening::trades::ISSUES;
 use rules::outcome::Phase;
 
-mod checks;
+pub mod checks;
+pub mod conditions;
 mod questions;
 mod setup;
-pub mod tests;
 
 // The most records of a tape that a market uses.
 pub const MOST_RECORDS: usize = 32_768;

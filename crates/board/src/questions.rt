@@ -6,7 +6,8 @@ ghost use Rattle.orders.specs.Book.{find};
 ghost use Rattle.rules.specs.Market.{opening_question};
 ghost use Rattle.board.specs.Boards.{ledger_of, state_of, readable};
 
-use super::{Board, tests};
+use super::Board;
+use crate::conditions::is_known;
 use opening::price;
 use orders::order::{Order, Trade};
 use rules::outcome::Phase;
@@ -23,16 +24,10 @@ impl Board {
     pub fn opening_price(&self, issue: u64) -> Option<u64>
         ensures { (rows : List Row) (tape : List Trade) → result ≡ opening_question issue (state_of self.now rows tape) }
     {
-        match self.phase {
-            Phase::PreOpen => {
-                if !tests::is_known(issue) {
-                    return None;
-                }
-                price::opening_price(&self.table, issue, self.closes[(issue - 1) as usize])
-            }
-            Phase::Continuous => None,
-            Phase::Closed => None,
+        if self.phase != Phase::PreOpen || !is_known(issue) {
+            return None;
         }
+        price::opening_price(&self.table, issue, self.closes[(issue - 1) as usize])
     }
 
     pub fn phase(&self) -> Phase
@@ -59,10 +54,7 @@ impl Board {
     pub fn trades<'t>(&self, tape: &'t [Trade], from: usize, count: usize) -> Option<&'t [Trade]>
         ensures { MatchOption result (readable self.now tape.now < from + count) (λ p. (from + count ≤ readable self.now tape.now) × (p.now ≡ take count (drop from tape.now))) }
     {
-        let end = self.used.min(tape.len());
-        if from > end || count > end - from {
-            return None;
-        }
-        Some(&tape[from..from + count])
+        let end = from.checked_add(count).filter(|end| *end <= self.used)?;
+        tape.get(from..end)
     }
 }

@@ -13,7 +13,7 @@ use Rattle.orders.specs.declared.order.Price.TheVariants.{Limit, Market}
 use Rattle.orders.specs.declared.order.Call.{Call}
 use Rattle.orders.specs.declared.order.Call.TheVariants.{Enter, Amend, Cancel, Suspend, Resume, Deposit, Withdraw, Reference, Open, Close}
 use Rattle.rules.specs.Faults.{fault_number}
-use Rattle.rules.specs.Refusals.{Lent}
+use Rattle.rules.specs.declared.lent.Lent.{Lent}
 use Rattle.rules.specs.Market.{State, Answer, set_up, run}
 use Rattle.examples.specs.Examples.{numbers, same, all_same}
 

@@ -3,25 +3,15 @@ use Rattle.std.proofs.Common.{◌≡◌, ℕ, suc, ◌+◌, ◌-◌, ◌<◌, �
 use Rattle.std.specs.List.{range_with_len}
 use Rattle.register.specs.Rules.{issues}
 use Rattle.orders.specs.declared.order.Trade.{Trade}
-use Rattle.orders.specs.declared.order.Life.{Life}
 use Rattle.orders.specs.declared.order.Call.TheVariants.{Open}
 use Rattle.opening.specs.Opening.{all_trades}
-use Rattle.matching.specs.Attempt.{attempt_of}
-use Rattle.rules.specs.declared.outcome.Phase.{Phase}
-use Rattle.rules.specs.declared.outcome.Phase.TheVariants.{Continuous}
 use Rattle.rules.specs.declared.outcome.Outcome.{Outcome}
-use Rattle.rules.specs.Market.{State, Answer, done, executed, if_now, by_rounds, tried, rounds_in, opened, accepted, decided, step}
-use Rattle.rules.specs.Refusals.{Lent, refusal}
+use Rattle.rules.specs.Market.{State, Answer, done, executed, by_rounds, rounds_in, opened, accepted, decided, step}
+use Rattle.rules.specs.declared.lent.Lent.{Lent}
+use Rattle.rules.specs.Refusals.{refusal}
 
 abbrev pub answered : Outcome → Answer
 answered d = Ok d
-
-pub in_continuous : (p : Phase) (life : Life) (n i k : ℕ) (s s₁ s₂ : State) (x : Answer × State) → p ≡ Continuous → s₁ ≡ executed (attempt_of n s.ledger.live) s → k ≡ length (attempt_of n s.ledger.live) →
-    s₂ ≡ if_now life n s₁ → x ≡ by_rounds n i k 0 s₂ → x ≡ tried p life n i s
-in_continuous p life n i k s s₁ s₂ x e f l h r =
-    let ts : List Trade = attempt_of n s.ledger.live in
-    let a : s₂ ≡ if_now life n (executed ts s) = h ∙ ap (if_now life n) f in
-    r ∙ (ap (by_rounds n i k 0) a ∙ (ap (λ (m : ℕ). by_rounds n i m 0 (if_now life n (executed ts s))) l ∙ sym (ap (λ q. tried q life n i s) e)))
 
 -- the issues from i up
 unfoldable pub issues_from : ℕ → List ℕ

@@ -1,7 +1,6 @@
 -- Calls, one after another. Assumes nothing.
-use Rattle.std.proofs.Common.{◌≡◌, ℕ, ◌+◌, ◌<◌, ◌≤◌, List, [], ◌∷◌, ◌++◌, length, get_or, drop, sym, refl, ap, ◌∙◌, append_assoc, append-nil, arith}
+use Rattle.std.proofs.Common.{◌≡◌, ℕ, ◌+◌, ◌<◌, ◌≤◌, List, [], ◌∷◌, ◌++◌, length, get_or, drop, sym, ap, ◌∙◌, append_assoc, append-nil}
 use Rattle.std.proofs.lemmas.List.{at_drop_more, at_drop_all}
-use Rattle.register.specs.declared.holding.Row.{Row}
 use Rattle.orders.specs.declared.order.Trade.{Trade}
 use Rattle.orders.specs.declared.order.Call.{Call}
 use Rattle.orders.specs.declared.order.Call.TheVariants.{Enter}
@@ -9,21 +8,10 @@ use Rattle.orders.specs.declared.order.Side.TheVariants.{Buy}
 use Rattle.orders.specs.declared.order.Price.TheVariants.{Limit}
 use Rattle.orders.specs.declared.order.Term.TheVariants.{Plain}
 use Rattle.orders.specs.declared.order.Life.TheVariants.{Day}
-use Rattle.rules.specs.Refusals.{Lent}
+use Rattle.rules.specs.declared.lent.Lent.{Lent}
 use Rattle.rules.specs.Market.{State, Answer, step, run}
-use Rattle.board.specs.declared.Board.{Board}
-use Rattle.board.specs.Boards.{state_of, lent_by}
-use Rattle.market.specs.Calls.{Called, lent_calls}
-
--- a call that is lent nothing, made with a tape and a strip
-pub untraded : (b b' : Board) (rs rs' : List Row) (tape : List Trade) (strip : List ℕ) (c d : Call) (a : Answer) → c ≡ d →
-    ((lent : Lent) (t : List Trade) → (a, state_of b' rs' t) ≡ step lent (state_of b rs t) d) → b'.used ≡ b.used → Called b rs tape strip c a b' rs' tape strip
-untraded b b' rs rs' tape strip c d a e h u =
-    record {
-      does = h (lent_by tape strip) tape ∙ sym (ap (λ (x : Call). step (lent_by tape strip) (state_of b rs tape) x) e);
-      same = refl;
-      rest = (omega arith, refl);
-    }
+use Rattle.board.specs.Boards.{lent_by}
+use Rattle.market.specs.Calls.{lent_calls}
 
 -- for a place that is not read
 abbrev pub no_call : Call

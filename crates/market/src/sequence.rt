@@ -2,7 +2,7 @@
 ghost use Rattle.std.specs.Prelude.{◌≡◌, true, drop, is_err, IfOk};
 ghost use Rattle.rules.specs.Market.{set_up, run as run_of};
 ghost use Rattle.board.specs.Boards.{state_of, lent_by};
-ghost use Rattle.market.specs.Calls.{Called, Grown, lent_calls};
+ghost use Rattle.market.specs.Calls.{Called, Lasts, lent_calls};
 
 use super::Market;
 use board::Board;
@@ -20,10 +20,7 @@ impl<'r, R: Register> Market<'r, R> {
         strip: &mut [u8],
         call: Call,
     ) -> Result<Outcome, MarketFault>
-        ensures does { Called self.old.board (R.rows self.old.register.now) tape.old strip.old call result self.new.board (R.rows self.new.register.now) tape.new strip.new }
-        ensures kept { is_err result ≡ true → self.new.register.now ≡ self.old.register.now }
-        ensures stays { R.rest self.new.register.now ≡ R.rest self.old.register.now }
-        ensures named { self.new.register.ghost_name ≡ self.old.register.ghost_name }
+        ensures { Called R.rows R.rest (lent_by tape.old strip.old) call result self.old self.new tape.old tape.new strip.old strip.new }
     {
         match call {
             Call::Enter(entry) => self.enter(tape, strip, entry),
@@ -53,6 +50,7 @@ impl<'r, R: Register> Market<'r, R> {
     }
 
     // Makes the calls one after another, each with the same tape and strip. Without the memory for the outcomes no call is made.
+    // A loop and no chain: of what a closure changes nothing is known after the chain.
     pub fn make_all(
         &mut self,
         heap: Global,
@@ -62,10 +60,7 @@ impl<'r, R: Register> Market<'r, R> {
     ) -> Result<Vec<Result<Outcome, MarketFault>>, AllocError>
         ensures does { IfOk result (λ v. (v.items, state_of self.new.board (R.rows self.new.register.now) tape.new) ≡ run_of (state_of self.old.board (R.rows self.old.register.now) tape.old) (lent_calls (lent_by tape.old strip.old) calls.now)) }
         ensures untouched { is_err result ≡ true → (self.new.board ≡ self.old.board) × (self.new.register.now ≡ self.old.register.now) × (tape.new ≡ tape.old) }
-        ensures strip { strip.new ≡ strip.old }
-        ensures rest { Grown self.old.board.used tape.old self.new.board.used tape.new }
-        ensures stays { R.rest self.new.register.now ≡ R.rest self.old.register.now }
-        ensures named { self.new.register.ghost_name ≡ self.old.register.ghost_name }
+        ensures lasts { Lasts R.rest self.old self.new tape.old tape.new strip.old strip.new }
     {
         let mut outcomes = Vec::with_capacity(heap, calls.len())?;
         for call in calls {

@@ -6,6 +6,7 @@ mod tests {
     use grid::Grid;
     use market::Market;
     use orders::order::{Entry, Life, Price, Side, Term, Trade};
+    use orders::strip::PLACES;
     use register::contract::Register;
     use register::holding::Row;
     use rows::RowRegister;
@@ -13,22 +14,9 @@ mod tests {
     use rules::outcome::Outcome;
     use std::process::Abort;
 
-    const BLANK: Trade = Trade {
-        issue: 0,
-        buy: 0,
-        sell: 0,
-        buyer: 0,
-        seller: 0,
-        quantity: 0,
-        price: 0,
-    };
-
     // 0 where the call was done, else the number of its refusal.
     fn code(r: Result<Outcome, MarketFault>) -> u64 {
-        match r {
-            Ok(_) => 0,
-            Err(fault) => fault.number(),
-        }
+        r.map_or_else(|fault| fault.number(), |_| 0)
     }
 
     // An entry of account 1 in issue 1, at a limit and for the day.
@@ -44,46 +32,29 @@ mod tests {
         }
     }
 
-    fn with_term(entry: Entry, term: Term) -> Entry {
-        Entry { term, ..entry }
-    }
-
-    fn with_price(entry: Entry, price: Price) -> Entry {
-        Entry { price, ..entry }
-    }
-
-    fn with_life(entry: Entry, life: Life) -> Entry {
-        Entry { life, ..entry }
-    }
-
-    fn by(entry: Entry, account: u64) -> Entry {
-        Entry { account, ..entry }
-    }
-
     // 2: the phase.
     fn phases<R: Register>(rt: &impl Abort, register: &mut R) {
         let mut m = Market::new(register);
-        let mut tape = [BLANK; 8];
-        let mut strip = [0u8; 256];
+        let mut tape = [Trade::default(); 8];
+        let mut strip = [0u8; PLACES];
         let buy = plain(Side::Buy, 1, 10);
-        assert_eq!(rt;
-            code(m.enter(&mut tape, &mut strip, with_price(buy, Price::Market))),
-            2
-        );
-        assert_eq!(rt;
-            code(m.enter(&mut tape, &mut strip, with_life(buy, Life::Now))),
-            2
-        );
+        let at_market = Entry {
+            price: Price::Market,
+            ..buy
+        };
+        let now = Entry {
+            life: Life::Now,
+            ..buy
+        };
+        assert_eq!(rt; code(m.enter(&mut tape, &mut strip, at_market)), 2);
+        assert_eq!(rt; code(m.enter(&mut tape, &mut strip, now)), 2);
         assert_eq!(rt; code(m.close()), 2);
         assert_eq!(rt; code(m.reference(1, 10)), 0);
         assert_eq!(rt; code(m.enter(&mut tape, &mut strip, buy)), 0);
         assert_eq!(rt; code(m.open(&mut tape, &mut strip)), 0);
         assert_eq!(rt; code(m.open(&mut tape, &mut strip)), 2);
         assert_eq!(rt; code(m.reference(1, 10)), 2);
-        assert_eq!(rt;
-            code(m.enter(&mut tape, &mut strip, with_life(buy, Life::Now))),
-            0
-        );
+        assert_eq!(rt; code(m.enter(&mut tape, &mut strip, now)), 0);
         assert_eq!(rt; code(m.close()), 0);
         assert_eq!(rt; code(m.close()), 2);
         assert_eq!(rt; code(m.enter(&mut tape, &mut strip, buy)), 2);

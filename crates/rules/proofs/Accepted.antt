@@ -1,5 +1,5 @@
 -- An accepted call answers no fault. Assumes nothing.
-use Rattle.std.proofs.Common.{◌≡◌, ℕ, List, [], ◌∷◌, Some, None, Ok, Err, Option, sym, refl, ap, ◌∙◌, arith}
+use Rattle.std.proofs.Common.{◌≡◌, ℕ, List, [], ◌∷◌, Some, None, Ok, Err, Option, sym, refl, ap, ◌∙◌}
 use Rattle.register.specs.Rules.{issues}
 use Rattle.orders.specs.declared.order.Life.{Life}
 use Rattle.orders.specs.declared.order.Call.{Call}
@@ -43,7 +43,7 @@ followed_answers l Open s = rounds_answer issues _ _
 followed_answers l Close s = (_, refl)
 
 no_fault : (x : Answer × State) → Answered x → (f : MarketFault) (new : State) → x ≡ (Err f, new) → ⊥
-no_fault x a f new e = let k : x.0 ≡ Err f = ap (λ y. y.0) e in let o : x.0 ≡ Ok a.0 = a.1 in let z : ◌≡◌ {A = ℕ} 0 1 = cc in omega arith
+no_fault x a f new e = let k : x.0 ≡ Err f = ap (λ y. y.0) e in let o : x.0 ≡ Ok a.0 = a.1 in cc
 
 pub refusals_change_nothing : RefusalsChangeNothing
 refusals_change_nothing lent s c f new e = by (refusal lent s.ledger s.rows c) refl e

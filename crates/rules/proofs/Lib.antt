@@ -1,3 +1,4 @@
 pub mod Accepted
+pub mod Limits
 pub mod Registers
 pub mod Settlements

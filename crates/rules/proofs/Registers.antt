@@ -1,5 +1,5 @@
 -- Every call keeps the register's rules. Assumes nothing.
-use Rattle.std.proofs.Common.{◌≡◌, ℕ, ◌+◌, ◌-◌, true, ltb, List, [], ◌∷◌, length, Some, None, Ok, Err, Option, refl, arith}
+use Rattle.std.proofs.Common.{◌≡◌, ℕ, ◌+◌, ◌-◌, true, ltb, List, [], ◌∷◌, length, Some, None, Ok, Err, Option, refl}
 use Rattle.std.proofs.lemmas.Bool.{cond_both}
 use Rattle.register.specs.declared.holding.Row.{Row}
 use Rattle.register.specs.declared.movers.Move.{Move}
@@ -38,7 +38,7 @@ moves rs (Err e) k f = k
 
 -- a move of a pair is done only where the pair is open
 open_first : (o : Option (ℕ × ℕ)) (next : ℕ → ℕ → Moved) (new : List Row) → if_open o next ≡ Ok new → (p : ℕ × ℕ) × (o ≡ Some p)
-open_first None next new e = let z : ◌≡◌ {A = ℕ} 0 1 = cc in absurd (omega arith)
+open_first None next new e = absurd cc
 open_first (Some p) next new e = (p, refl)
 
 deposit_kept : (a i q : ℕ) (rs : List Row) → Kept rs → Kept (rows_after rs (deposited a i q rs))

@@ -72,7 +72,7 @@ module _ (s b i q : ℕ) (old new : List Row) (st : Settlement s b i q old new) 
 
 -- a pair that is open has shares
 pub open_has : (o : Option (ℕ × ℕ)) → is_some o ≡ true → (p : ℕ × ℕ) × (o ≡ Some p)
-open_has None e = let z : ◌≡◌ {A = ℕ} 0 1 = cc in absurd (omega arith)
+open_has None e = absurd cc
 open_has (Some p) e = (p, refl)
 
 settles : (s b i q : ℕ) (rs : List Row) (fs hs fb hb : ℕ) → Has s i fs hs rs → Has b i fb hb rs → q ≤ hs → settled s b i q rs ≡ Ok (change b i (gain_free q) (change s i (lose_held q) rs))

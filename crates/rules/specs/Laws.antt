@@ -3,7 +3,8 @@ use Rattle.std.specs.Prelude.{◌≡◌, true, List, Some, Err}
 use Rattle.register.specs.Rules.{lawful}
 use Rattle.orders.specs.declared.order.Call.{Call}
 use Rattle.rules.specs.declared.fault.MarketFault.{MarketFault}
-use Rattle.rules.specs.Refusals.{Lent, refusal}
+use Rattle.rules.specs.declared.lent.Lent.{Lent}
+use Rattle.rules.specs.Refusals.{refusal}
 use Rattle.rules.specs.Market.{State, step, run}
 
 -- A call that answers a fault leaves ledger, previous closes, register and tape as they were; and that fault is the first whose condition holds.

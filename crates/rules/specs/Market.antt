@@ -21,7 +21,8 @@ use Rattle.rules.specs.declared.outcome.Phase.TheVariants.{PreOpen, Continuous, 
 use Rattle.rules.specs.declared.outcome.Outcome.{Outcome}
 use Rattle.rules.specs.declared.fault.MarketFault.{MarketFault}
 use Rattle.rules.specs.Ledger.{Ledger, blank, with_live, noted}
-use Rattle.rules.specs.Refusals.{Lent, refusal, known_issue}
+use Rattle.rules.specs.declared.lent.Lent.{Lent}
+use Rattle.rules.specs.Refusals.{refusal, known_issue}
 
 pub record State : Type 0 where
   pub ledger : Ledger
@@ -34,9 +35,6 @@ pub record State : Type 0 where
 
 abbrev pub set_up : List Row → State
 set_up rows = record { ledger = blank; closes = replicate 16 1000; rows = rows; tape = [] }
-
-abbrev pub with_ledger : Ledger → State → State
-with_ledger l s = record { ledger = l; closes = s.closes; rows = s.rows; tape = s.tape }
 
 -- Movers of the register. None of these is ever refused in a call; refused, it would leave the rows as they are.
 abbrev pub held_for : ℕ → ℕ → ℕ → List Row → List Row

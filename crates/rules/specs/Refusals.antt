@@ -16,16 +16,12 @@ use Rattle.orders.specs.declared.order.Call.{Call}
 use Rattle.orders.specs.declared.order.Call.TheVariants.{Enter, Amend, Cancel, Suspend, Resume, Deposit, Withdraw, Reference, Open, Close}
 use Rattle.orders.specs.Orders.{breaks_price, breaks_quantity, breaks_least, never_given, stamps_out}
 use Rattle.orders.specs.Book.{find, best_opposite}
+use Rattle.rules.specs.declared.lent.Lent.{Lent}
 use Rattle.rules.specs.declared.outcome.Phase.{Phase}
 use Rattle.rules.specs.declared.outcome.Phase.TheVariants.{PreOpen, Continuous, Closed}
 use Rattle.rules.specs.declared.fault.MarketFault.{MarketFault}
 use Rattle.rules.specs.declared.fault.MarketFault.TheVariants.{WrongPhase, UncleanStrip, ShortTape, UnknownIssue, NeverGiven, OrderEnded, NothingToChange, BadPrice, BadQuantity, BadLeast, NoneOpposite, BookFull, StampsOut, InRegister}
 use Rattle.rules.specs.Ledger.{Ledger, restamps}
-
--- what is lent to a call: whether the strip is 256 zero bytes, and the length of the tape
-pub record Lent : Type 0 where
-  pub clean : Bool
-  pub room : ℕ
 
 abbrev pub first_refusal : List (Bool × MarketFault) → Option MarketFault
 first_refusal [] = None

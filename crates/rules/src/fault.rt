@@ -5,7 +5,7 @@ ghost use Rattle.rules.specs.declared.fault.MarketFault.TheVariants.{InRegister}
 
 use register::fault::RegisterFault;
 
-#[derive(Clone, Copy)]
+#[derive(Clone, Copy, PartialEq, Eq, Debug)]
 pub enum MarketFault {
     // the phase is not one in which the call is made
     WrongPhase,
@@ -38,7 +38,7 @@ pub enum MarketFault {
 }
 
 impl MarketFault {
-    // The number that is answered.
+    // The number that is answered. A match, since a fault that keeps another has no number of its own to be cast.
     pub fn number(self) -> u64
         ensures { result ≡ fault_number self }
     {
@@ -56,21 +56,12 @@ impl MarketFault {
             MarketFault::NoneOpposite => 12,
             MarketFault::BookFull => 14,
             MarketFault::StampsOut => 15,
-            MarketFault::InRegister(fault) => register_number(fault),
+            MarketFault::InRegister(RegisterFault::NotOpen) => 5,
+            MarketFault::InRegister(RegisterFault::ShortFree) => 13,
+            MarketFault::InRegister(RegisterFault::OverTotal) => 16,
+            // neither comes out of a call
+            MarketFault::InRegister(RegisterFault::ShortHeld | RegisterFault::BadRows) => 0,
         }
-    }
-}
-
-// The number that is answered for a fault of the register. The last two never come out of a call.
-fn register_number(fault: RegisterFault) -> u64
-    ensures { result ≡ fault_number (InRegister fault) }
-{
-    match fault {
-        RegisterFault::NotOpen => 5,
-        RegisterFault::ShortFree => 13,
-        RegisterFault::OverTotal => 16,
-        RegisterFault::ShortHeld => 0,
-        RegisterFault::BadRows => 0,
     }
 }
 

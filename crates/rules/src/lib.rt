@@ -3,4 +3,5 @@
 
 pub mod fault;
 pub mod laws;
+pub mod lent;
 pub mod outcome;

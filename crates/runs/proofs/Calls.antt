@@ -1,5 +1,5 @@
 -- Each call keeps what the market promises. Assumes nothing.
-use Rattle.std.proofs.Common.{◌≡◌, ℕ, ◌+◌, ◌≤◌, min, Bool, true, false, not, ◌&&◌, ltb, leb, ◌⊎◌, List, [], ◌∷◌, ◌++◌, length, is_some, Some, None, Ok, Err, Option, sym, refl, ap, ◌∙◌, subst, inl, inr, arith}
+use Rattle.std.proofs.Common.{◌≡◌, ℕ, ◌+◌, ◌≤◌, min, Bool, true, false, not, ◌&&◌, ltb, leb, ◌⊎◌, List, [], ◌∷◌, ◌++◌, length, is_some, Some, None, Ok, Err, Option, sym, refl, ap, ◌∙◌, subst, inl, inr, arith, append-nil}
 use Rattle.std.proofs.lemmas.Bool.{not-false, or_parts}
 use Rattle.std.proofs.ByRecursion.{All-weaker, All-append}
 use Rattle.std.specs.List.{AllByRecursion as EveryOne}
@@ -26,14 +26,15 @@ use Rattle.rules.specs.declared.outcome.Outcome.{Outcome}
 use Rattle.rules.specs.declared.fault.MarketFault.{MarketFault}
 use Rattle.rules.specs.declared.fault.MarketFault.TheVariants.{WrongPhase, NeverGiven, OrderEnded, NothingToChange, NoneOpposite, BookFull, StampsOut, InRegister}
 use Rattle.rules.specs.Ledger.{Ledger, noted, listed, restamps}
-use Rattle.rules.specs.Refusals.{Lent, is_pre_open, is_closed, is_now, is_market, is_sell, is_open, too_few, works, short_for, wrong_to_enter, live_refusal, refusal}
+use Rattle.rules.specs.declared.lent.Lent.{Lent}
+use Rattle.rules.specs.Refusals.{is_pre_open, is_closed, is_now, is_market, is_sell, is_open, too_few, works, short_for, wrong_to_enter, live_refusal, refusal}
 use Rattle.rules.specs.Market.{State, Answer, number_for, accepted, followed, decided, step, issue_of}
 use Rattle.rules.specs.Shares.{shares_in, bought, sold}
 use Rattle.runs.specs.Record.{now_order, before_trades, trades_in, after_call}
 use Rattle.runs.specs.Promise.{brought, taken}
 use Rattle.runs.proofs.Pairs.{none}
 use Rattle.runs.proofs.Lists.{names_changed}
-use Rattle.runs.proofs.Steady.{Stands, SoFar, begin, append_nil}
+use Rattle.runs.proofs.Steady.{Stands, SoFar, begin}
 use Rattle.runs.proofs.Follow.{Over, Names, finish, tried_on, opening_on}
 use Rattle.runs.proofs.Taken.{one_pass, lent_passes, terms_pass, both_pass, room_left, Taken, enter_taken, amend_keeps, amend_taken, suspend_taken, resume_keeps, resume_taken, cancel_taken, deposit_taken, withdraw_taken, reference_taken, open_taken, close_taken}
 
@@ -125,7 +126,7 @@ over_keeps extra room P out into s c y o tk eo ei fit =
 
 -- ---- the live order that a call names
 found_is : (r : Option Order) → not (is_some r) ≡ false → (o : Order) × (r ≡ Some o)
-found_is None e = absurd (let z : ◌≡◌ {A = ℕ} 0 1 = cc in omega arith)
+found_is None e = absurd cc
 found_is (Some o) e = (o, refl)
 
 record LiveCall (lent : Lent) (s : State) (n : ℕ) : Type 0 where
@@ -147,9 +148,9 @@ enter_life PreOpen e f Day k = inr refl
 enter_life PreOpen e f Now k =
     let t : is_now e.life ≡ false = (or_parts (is_market e.price) (is_now e.life) f).1 in
     let u : true ≡ false = sym (ap is_now k) ∙ t in
-    absurd (let z : ◌≡◌ {A = ℕ} 0 1 = cc in omega arith)
+    absurd cc
 enter_life Continuous e f life k = inl refl
-enter_life Closed e f life k = absurd (let z : ◌≡◌ {A = ℕ} 0 1 = cc in omega arith)
+enter_life Closed e f life k = absurd cc
 
 enter_names : (extra : ℕ → ℕ → ℕ) (s : State) (e : Entry) → Stands extra s → Names (s.ledger.number + 1) e.issue (accepted s (Enter e)).ledger.live
 enter_names extra s e h =
@@ -301,8 +302,8 @@ refused_keeps extra room s c f h =
       fair = tt;
       whole = λ n o e a. e;
       ledger = ledger_from s.ledger (after_call c (Err f) [] s.ledger) refl refl refl refl (omega arith);
-      next = λ e d is bad. absurd (let z : ◌≡◌ {A = ℕ} 0 1 = cc in omega arith);
-      tape = append_nil s.tape;
+      next = λ e d is bad. absurd cc;
+      tape = sym (append-nil s.tape);
       shares = λ a i. omega (arith, brought_refused a i f c, taken_refused a i f c);
       opened = λ a i. refl;
       stands = h;

@@ -60,10 +60,10 @@ idle extra P g s ts x off h =
     }
 
 pub pre_open_not : (p : Phase) → p ≡ PreOpen → p ≡ Continuous → ⊥
-pre_open_not p e f = let z : ◌≡◌ {A = ℕ} 0 1 = cc in omega arith
+pre_open_not p e f = cc
 
 closed_not : (p : Phase) → p ≡ Closed → p ≡ Continuous → ⊥
-closed_not p e f = let z : ◌≡◌ {A = ℕ} 0 1 = cc in omega arith
+closed_not p e f = cc
 
 waits : (extra : ℕ → ℕ → ℕ) (P : ℕ → Type 0) (n : ℕ) (s : State) → (s.ledger.phase ≡ Continuous → ⊥) → Steady extra P s → Over extra None n s (Ok (record { number = n; trades = 0; rounds = 0 }), s)
 waits extra P n s off h = record { trades = []; outcome = _; far = idle extra P None s [] s off (begin extra P s h); answer = refl; number = refl; counted = refl }
@@ -148,7 +148,7 @@ unfolding issues
 known_among j low high = among_counting 16 1 j low (omega arith)
 
 ranged : (a i : ℕ) (rs : List Row) → list_all in_range rs ≡ true → is_some (balance_of a i rs) ≡ true → (1 ≤ i) × (i ≤ 16)
-ranged a i [] h e = absurd (let z : ◌≡◌ {A = ℕ} 0 1 = cc in omega arith)
+ranged a i [] h e = absurd cc
 ranged a i (r ∷ rs) h e =
     let p = and_parts (in_range r) (list_all in_range rs) h in
     cond_either (names a i r) (Some (r.free, r.held)) (balance_of a i rs) (λ o. is_some o ≡ true) e
@@ -193,9 +193,9 @@ opening_whole i closes b h n o e all = go (find n b) refl
         e (found_number n (after ts b) o e)
 
     by_term : (x : Order) → find n b ≡ Some x → (t : Term) → x.term ≡ t → find n b ≡ Some o
-    by_term x k Plain et = absurd (let z : Plain ≡ All = sym (plain_stays x k et) ∙ all in let y : ◌≡◌ {A = ℕ} 0 1 = cc in omega arith)
-    by_term x k All et = special x k (λ pl. let z : ◌≡◌ {A = ℕ} 0 1 = cc in omega arith)
-    by_term x k (Least m) et = special x k (λ pl. let z : ◌≡◌ {A = ℕ} 0 1 = cc in omega arith)
+    by_term x k Plain et = absurd (let z : Plain ≡ All = sym (plain_stays x k et) ∙ all in cc)
+    by_term x k All et = special x k (λ pl. cc)
+    by_term x k (Least m) et = special x k (λ pl. cc)
 
     go : (r : Option Order) → find n b ≡ r → find n b ≡ Some o
     go None k = none_some o (sym (gone n ts b (all_fair i closes b h) k).1 ∙ e)

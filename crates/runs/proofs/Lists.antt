@@ -1,5 +1,5 @@
 -- Books with an order more, and with an order changed in its place. Assumes nothing.
-use Rattle.std.proofs.Common.{◌≡◌, ℕ, ◌+◌, ◌<◌, Bool, true, false, cond, eqb, ◌⊎◌, [], ◌∷◌, ◌++◌, Some, sym, refl, ap, ◌∙◌, subst, inl, inr, arith}
+use Rattle.std.proofs.Common.{◌≡◌, ℕ, ◌+◌, ◌<◌, Bool, true, false, cond, eqb, ◌⊎◌, [], ◌∷◌, ◌++◌, Some, sym, refl, ap, ◌∙◌, subst, inl, inr, arith, append-nil}
 use Rattle.std.proofs.lemmas.Bool.{cond_both, eqb-true, ne_eqb}
 use Rattle.std.proofs.lemmas.Bool.Decides.{nat_tests}
 use Rattle.std.proofs.lemmas.List.Elements.{filter-append}
@@ -13,7 +13,6 @@ use Rattle.orders.specs.Lists.{none_some, in_all}
 use Rattle.orders.proofs.Changes.{changed_missing, found_all, found_only, distinct_ascending}
 use Rattle.matching.specs.Laws.{of_issue}
 use Rattle.rules.specs.Shares.{backing}
-use Rattle.runs.proofs.Steady.{append_nil}
 use Rattle.runs.proofs.Pairs.{behind}
 
 -- ---- an order more
@@ -34,7 +33,7 @@ sound_append b o h v n s =
     record { ascending = ascending_append b o h.ascending n; valid = All-append Valid b (o ∷ []) h.valid (v, tt); stamps = stamps_append b o h.stamps s }
 
 pub issue_append : (j : ℕ) (b : Book) (o : Order) → (o.issue ≡ j → ⊥) → of_issue j (b ++ (o ∷ [])) ≡ of_issue j b
-issue_append j b o ne = filter-append (λ x. eqb x.issue j) b (o ∷ []) ∙ (rw (ne_eqb o.issue j ne) (sym (append_nil (of_issue j b))))
+issue_append j b o ne = filter-append (λ x. eqb x.issue j) b (o ∷ []) ∙ (rw (ne_eqb o.issue j ne) (append-nil (of_issue j b)))
 
 -- ---- an order changed
 -- a change that keeps whose order it is

@@ -1,5 +1,5 @@
 -- The record of a run tells its ledger, and every run keeps the promise. Assumes nothing.
-use Rattle.std.proofs.Common.{◌≡◌, ℕ, ◌+◌, ◌≤◌, true, false, ◌⊎◌, List, [], ◌∷◌, ◌++◌, length, take, drop, is_some, Some, None, Ok, Err, Option, sym, refl, ap, ◌∙◌, subst, inl, inr, append_assoc, arith, length-append, take-append-drop, take_at, drop_at}
+use Rattle.std.proofs.Common.{◌≡◌, ℕ, ◌+◌, ◌≤◌, true, false, ◌⊎◌, List, [], ◌∷◌, ◌++◌, length, take, drop, is_some, Some, None, Ok, Err, Option, sym, refl, ap, ◌∙◌, subst, inl, inr, append_assoc, arith, length-append, take-append-drop, take_at, drop_at, append-nil}
 use Rattle.std.proofs.lemmas.Bool.{cases_eq}
 use Rattle.std.proofs.lemmas.Bool.Decides.{nat_tests}
 use Rattle.register.specs.declared.holding.Row.{Row}
@@ -20,13 +20,13 @@ use Rattle.matching.specs.Laws.{traded, dropped}
 use Rattle.matching.proofs.Wholes.{Whole, ended_or_live, gone, whole_trades}
 use Rattle.rules.specs.declared.outcome.Outcome.{Outcome}
 use Rattle.rules.specs.Ledger.{Ledger, blank, listed, noted}
-use Rattle.rules.specs.Refusals.{Lent}
+use Rattle.rules.specs.declared.lent.Lent.{Lent}
 use Rattle.rules.specs.Market.{State, Answer, set_up, step, run}
 use Rattle.rules.specs.Shares.{held_in, shares_in, bought, sold}
 use Rattle.runs.specs.Record.{ends_after, before_trades, trades_in, after_call, replay}
 use Rattle.runs.specs.Promise.{deposits, withdrawals, LeftOver, CallKept, CallsKept, calls_of, Kept, PromiseKept}
 use Rattle.runs.proofs.Drops.{find_without_other, none_dropped, dropped_ends, least_kept}
-use Rattle.runs.proofs.Steady.{Stands, append_nil, sold_append, bought_append}
+use Rattle.runs.proofs.Steady.{Stands, sold_append, bought_append}
 use Rattle.runs.proofs.Follow.{empty_quiet}
 use Rattle.runs.proofs.Calls.{CallKeeps, calls_keep}
 
@@ -43,18 +43,15 @@ some_append : (n : ℕ) (b : Book) (o p : Order) → find n b ≡ Some o → fin
 some_append n [] o p e = none_some o e
 some_append n (x ∷ os) o p e = let ih = some_append n os o p in grind (arith, nat_tests)
 
-never : {A : Type 0} → ◌≡◌ {A = ℕ} 0 1 → A
-never z = absurd (omega arith)
-
 is_none : {X : Type 0} (o : Option X) → is_some o ≡ false → o ≡ None
 is_none None e = refl
-is_none (Some x) e = never cc
+is_none (Some x) e = cc
 
 none_changed : (k : ℕ) (f : Order → Order) → ((o : Order) → (f o).number ≡ o.number) → (n : ℕ) (b : Book) → find n b ≡ None → find n (changed k f b) ≡ None
 none_changed k f h n b e = is_none (find n (changed k f b)) (found_changed k f h n b ∙ ap is_some e)
 
 some_changed : {A : Type 0} (k : ℕ) (f : Order → Order) → ((o : Order) → (f o).number ≡ o.number) → (n : ℕ) (b : Book) (o : Order) → find n b ≡ Some o → find n (changed k f b) ≡ None → A
-some_changed k f h n b o e z = never (let t : true ≡ false = sym (ap is_some e) ∙ sym (found_changed k f h n b) ∙ ap is_some z in cc)
+some_changed k f h n b o e z = absurd (let t : true ≡ false = sym (ap is_some e) ∙ sym (found_changed k f h n b) ∙ ap is_some z in cc)
 
 noted_none : (c : Call) (m : ℕ) (l : Ledger) (n : ℕ) → ((e : Entry) → c ≡ Enter e → m ≡ l.number + 1) → n ≤ l.number → find n l.live ≡ None → (find n (noted c m l).live ≡ None) × (n ≤ (noted c m l).number)
 noted_none (Enter e) m l n new le h = let is = new e refl in (none_append n l.live (listed m e l) (λ same. omega arith) h, omega arith)
@@ -188,7 +185,7 @@ used_fits extra room s c y k h le =
 
 runs_keep : (extra : ℕ → ℕ → ℕ) (s : State) (cs : List (Lent × Call)) → Stands extra s → RunKept extra s cs
 runs_keep extra s [] h =
-    record { trades = []; tape = append_nil s.tape; calls = refl; ledger = refl; shares = λ a i. refl; opened = λ a i. refl; fits = λ le. le; stands = h }
+    record { trades = []; tape = sym (append-nil s.tape); calls = refl; ledger = refl; shares = λ a i. refl; opened = λ a i. refl; fits = λ le. le; stands = h }
 runs_keep extra s (lent ∷ cs) h =
     let c = lent.1 in
     let y = step lent.0 s c in

@@ -1,5 +1,5 @@
 -- How a call's trades and endings change a state. Assumes nothing.
-use Rattle.std.proofs.Common.{◌≡◌, ℕ, ◌+◌, ◌≤◌, Bool, true, false, cond, not, eqb, List, [], ◌∷◌, ◌++◌, length, is_some, Some, None, Option, sym, refl, ap, ◌∙◌, subst, inl, inr, append_assoc, arith, length-append}
+use Rattle.std.proofs.Common.{◌≡◌, ℕ, ◌+◌, ◌≤◌, Bool, true, false, cond, not, eqb, List, [], ◌∷◌, ◌++◌, length, is_some, Some, None, Option, sym, refl, ap, ◌∙◌, subst, inl, inr, append_assoc, arith, length-append, append-nil}
 use Rattle.std.proofs.lemmas.Bool.{cases_eq, eqb-true}
 use Rattle.std.proofs.lemmas.Bool.Decides.{nat_tests}
 use Rattle.std.proofs.ByRecursion.{All-weaker, all_kept_by}
@@ -61,10 +61,6 @@ pub record SoFar (extra : ℕ → ℕ → ℕ) (P : ℕ → Type 0) (g : Option 
   pub shares : (a i : ℕ) → shares_in (balance_of a i x.rows) + sold a i ts ≡ shares_in (balance_of a i s.rows) + bought a i ts
   pub opened : (a i : ℕ) → is_some (balance_of a i x.rows) ≡ is_some (balance_of a i s.rows)
 
-pub append_nil : {X : Type 0} (xs : List X) → xs ≡ xs ++ []
-append_nil [] = refl
-append_nil (x ∷ xs) = ap (λ ys. x ∷ ys) (append_nil xs)
-
 pub sold_append : (a i : ℕ) (ts us : List Trade) → sold a i (ts ++ us) ≡ sold a i ts + sold a i us
 sold_append a i [] us = omega arith
 sold_append a i (t ∷ ts) us = omega (arith, sold_append a i ts us)
@@ -85,7 +81,7 @@ begin extra P s h =
       number = refl;
       stamp = refl;
       used = omega arith;
-      tape = append_nil s.tape;
+      tape = sym (append-nil s.tape);
       shares = λ a i. refl;
       opened = λ a i. refl;
     }

@@ -1,32 +1,30 @@
 -- The state that each accepted call leaves before its trades. Assumes nothing.
-use Rattle.std.proofs.Common.{◌≡◌, ℕ, ◌+◌, ◌-◌, ◌<◌, ◌≤◌, min, Bool, true, false, cond, not, ◌&&◌, ◌||◌, ltb, leb, ◌⊎◌, List, [], ◌∷◌, ◌++◌, length, is_some, Some, None, filter, Option, sym, refl, ap, ◌∙◌, inl, inr, arith, length-append}
-use Rattle.std.proofs.lemmas.Bool.{ltb-false, leb-false, not-true, or_parts}
+use Rattle.std.proofs.Common.{◌≡◌, ℕ, ◌+◌, ◌-◌, ◌<◌, ◌≤◌, min, Bool, true, false, cond, not, ◌&&◌, ltb, leb, ◌⊎◌, List, [], ◌∷◌, ◌++◌, length, is_some, Some, None, Option, sym, refl, ap, ◌∙◌, inl, inr, arith, length-append}
+use Rattle.std.proofs.lemmas.Bool.{ltb-false, leb-false}
 use Rattle.std.proofs.ByRecursion.{All-weaker, All-append}
 use Rattle.std.specs.List.{AllByRecursion as EveryOne}
 use Rattle.register.specs.declared.holding.Row.{Row}
 use Rattle.register.specs.Rules.{lawful, balance_of}
 use Rattle.orders.specs.declared.order.Order.{Order}
 use Rattle.orders.specs.declared.order.Entry.{Entry}
-use Rattle.orders.specs.declared.order.Side.{Side}
 use Rattle.orders.specs.declared.order.Term.{Term}
 use Rattle.orders.specs.declared.order.Price.{Price}
-use Rattle.orders.specs.declared.order.Price.TheVariants.{Limit, Market}
-use Rattle.orders.specs.Orders.{Valid, breaks_price, breaks_quantity, breaks_least, working_opposite}
+use Rattle.orders.specs.Orders.{Valid, breaks_price, breaks_quantity, breaks_least}
 use Rattle.orders.specs.Book.{Book, find, changed, amended, suspended, resumed, best_opposite}
-use Rattle.orders.specs.Lists.{all_in, some_none, cond_either, in_kept}
-use Rattle.orders.specs.Firsts.{first_tops}
-use Rattle.orders.specs.Ranks.{ahead_ranks}
+use Rattle.orders.specs.Lists.{some_none, cond_either}
 use Rattle.orders.proofs.Changes.{found_all, distinct_ascending, length_changed, length_without}
-use Rattle.orders.proofs.Validity.{bounds_valid, bounds_from, valid_bounds}
+use Rattle.orders.proofs.Validity.{bounds_valid, bounds_from}
 use Rattle.matching.proofs.Issues.{quiet_local}
 use Rattle.rules.specs.declared.fault.MarketFault.{MarketFault}
 use Rattle.rules.specs.declared.fault.MarketFault.TheVariants.{WrongPhase, UncleanStrip, ShortTape, BadPrice, BadQuantity, BadLeast}
-use Rattle.rules.specs.Ledger.{Ledger, limit_for, listed, restamps}
-use Rattle.rules.specs.Refusals.{Lent, lent_refusal, terms_refusal, or_else, is_open, is_sell, is_market, too_few, short_for, limit_breaks, tape_short}
+use Rattle.rules.specs.Ledger.{Ledger, listed, restamps}
+use Rattle.rules.specs.declared.lent.Lent.{Lent}
+use Rattle.rules.specs.Refusals.{lent_refusal, terms_refusal, or_else, is_open, is_sell, is_market, too_few, short_for, limit_breaks, tape_short}
 use Rattle.rules.specs.Market.{State, accepted}
 use Rattle.rules.specs.Shares.{held_in, shares_in}
 use Rattle.orders.specs.declared.order.Call.TheVariants.{Enter, Amend, Cancel, Suspend, Resume, Deposit, Withdraw, Reference, Open, Close}
 use Rattle.orders.specs.Orders.{stamps_out}
+use Rattle.rules.proofs.Limits.{limit_bounded}
 use Rattle.runs.proofs.Pairs.{Moved, stays, none, at_pair, behind, covered_moves, recovered_moves, all_ended_moves, deposit_moves, withdraw_moves}
 use Rattle.runs.proofs.Follow.{empty_quiet}
 use Rattle.register.specs.Rules.{limit, total_of}
@@ -57,21 +55,8 @@ pub room_left : (room : ℕ) (l : Ledger) → tape_short room l ≡ false → (l
 room_left room l e = omega (arith, ltb-false (min room 32768 - l.used) (length l.live + 1) e)
 
 -- ---- an entry
-limit_valid : (p : Price) → limit_breaks p ≡ false → (best : Option Order) → (is_market p && not (is_some best)) ≡ false → ((o : Order) → best ≡ Some o → breaks_price o.price ≡ false) → breaks_price (limit_for p best) ≡ false
-limit_valid (Limit p) f best g h = f
-limit_valid Market f None g h = cc
-limit_valid Market f (Some o) g h = h o refl
-
-opposite_valid : (i : ℕ) (d : Side) (b : Book) → EveryOne Valid b → (o : Order) → best_opposite i d b ≡ Some o → Valid o
-opposite_valid i d b h o e = all_in Valid b h o (in_kept (working_opposite i d) b o (first_tops ahead_ranks (filter (working_opposite i d) b) o e).0).0
-
 valid_from : (o : Order) → breaks_price o.price ≡ false → breaks_quantity o.left ≡ false → breaks_least o.term o.left ≡ false → Valid o
 valid_from o p q l = bounds_valid o (bounds_from o p q l)
-
-price_keeps : (o : Order) → Valid o → breaks_price o.price ≡ false
-price_keeps o v =
-    let t = not-true _ (valid_bounds o v) in
-    (or_parts (breaks_price o.price) (breaks_quantity o.left || breaks_least o.term o.left) t).0
 
 -- From s to x: what is in each pair, and the state that the call has come to before its trades.
 pub record Taken (extra : ℕ → ℕ → ℕ) (P : ℕ → Type 0) (out into : ℕ → ℕ → ℕ) (s x : State) : Type 0 where
@@ -93,7 +78,7 @@ enter_taken extra s e h here price quantity least opposite enough full out =
     let b : Book = l.live in
     let o : Order = listed (l.number + 1) e l in
     let best : Option Order = best_opposite e.issue e.side b in
-    let valid : Valid o = valid_from o (limit_valid e.price price best opposite (λ x k. price_keeps x (opposite_valid e.issue e.side b h.sound.valid x k))) quantity least in
+    let valid : Valid o = valid_from o (limit_bounded b h.sound.valid e.issue e.side e.price best refl opposite price) quantity least in
     let m = covered_moves e.side e o s.rows refl refl refl refl h.rules here enough in
     let more = length-append b (o ∷ []) in
     record {

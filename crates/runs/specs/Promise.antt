@@ -14,7 +14,7 @@ use Rattle.matching.specs.Laws.{is_of, traded, Quiet}
 use Rattle.rules.specs.declared.outcome.Phase.TheVariants.{Continuous}
 use Rattle.rules.specs.declared.outcome.Outcome.{Outcome}
 use Rattle.rules.specs.Ledger.{Ledger, blank}
-use Rattle.rules.specs.Refusals.{Lent}
+use Rattle.rules.specs.declared.lent.Lent.{Lent}
 use Rattle.rules.specs.Market.{State, Answer, set_up, run}
 use Rattle.rules.specs.Shares.{held_in, shares_in, same_pair, backing, bought, sold}
 use Rattle.runs.specs.Record.{ends_after, before_trades, trades_in, after_call, replay}

@@ -7,8 +7,7 @@ use Rattle.market.proofs.settling.end_all.Given as goal
 abbrev pub invariant-loop-o : goal.invariant-loop-o
 invariant-loop-o g l =
     (all_ended (book_of l.table) (g.R.Register.rows l.register) ≡ all_ended (book_of l.initial.table) (g.R.Register.rows l.initial.register))
-    × (l.table.number ≡ l.initial.table.number)
-    × (l.table.stamp ≡ l.initial.table.stamp)
+    × (l.table.given ≡ l.initial.table.given)
     × (g.R.Register.rest l.register ≡ g.R.Register.rest l.initial.register)
 
 abbrev pub decreases-loop-o : goal.decreases-loop-o
