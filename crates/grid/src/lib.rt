@@ -30,6 +30,7 @@ pub struct Holding {
     pub held: u64,
 }
 
+// Arrays: a grid uses no heap, and every pair of it is open.
 #[derive(Drop)]
 pub struct Grid {
     cells: [Holding; CELLS],

@@ -28,7 +28,7 @@ pub trait Register {
 
     ghost rest: { Self → Rest };
 
-    // Free and held shares of a pair, absent where it is not open.
+    // Free and held shares of a pair as one answer, absent where it is not open.
     fn balance(&self, account: u64, issue: u64) -> Option<(u64, u64)>
         ensures { result ≡ balance_of account issue (rows self.now) };
 
@@ -65,6 +65,7 @@ pub trait Register {
         ensures keeps { is_err result ≡ true → self.new ≡ self.old };
 
     // Takes q from the seller's held shares and adds it to the buyer's free shares; one account may be both.
+    // Four parameters: a register knows no trades.
     fn settle(&mut self, seller: u64, buyer: u64, issue: u64, q: u64) -> Result<(), RegisterFault>
         ensures answers { result ≡ answer (settled seller buyer issue q (rows self.old)) }
         ensures leaves { rows self.new ≡ after (rows self.old) (settled seller buyer issue q (rows self.old)) }

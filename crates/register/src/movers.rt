@@ -1,5 +1,5 @@
 // The movers, written and proved once for every store of rows.
-ghost use Rattle.std.specs.Prelude.{◌≡◌, ℕ, ◌+◌, ◌≤◌, true, is_err, IfOk};
+ghost use Rattle.std.specs.Prelude.{◌≡◌, ◌+◌, ◌≤◌, true, is_err, IfOk};
 ghost use Rattle.register.specs.Rules.{limit, answer, after, figures_after, moved};
 
 use super::contract::Register;

@@ -1,5 +1,5 @@
 // What the movers ask of a register's memory: to find a pair, and to read and write its shares.
-ghost use Rattle.std.specs.Prelude.{◌≡◌, ℕ, ◌+◌, ◌<◌, ◌≤◌, true, List, length, get_or, None, MatchOption, slice_index_or, slice_set};
+ghost use Rattle.std.specs.Prelude.{◌≡◌, ◌+◌, ◌<◌, ◌≤◌, true, List, length, get_or, None, MatchOption, slice_index_or, slice_set};
 ghost use Rattle.register.specs.declared.holding.Row.{Row};
 ghost use Rattle.register.specs.Places.{Placed, no_row};
 ghost use Rattle.register.specs.Rules.{limit, lawful, balance_of, total_of, figured};

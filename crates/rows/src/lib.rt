@@ -22,7 +22,7 @@ pub struct RowRegister<'a> {
     ghost ruled: { lawful (meant usable rows.now) ≡ true },
 }
 
-// A register may be made over the rows.
+// The rows keep every rule for rows.
 #[tactic(auto, unfolding(register::specs::Rules::lawful))]
 fn are_acceptable(rows: &[Row]) -> bool
     ensures { result ≡ acceptable rows.now }
@@ -33,15 +33,13 @@ fn are_acceptable(rows: &[Row]) -> bool
         && scan::are_capped(rows)
 }
 
-// R5 where the rows break a rule.
+// The fault of rows that break a rule.
 pub fn check(rows: &[Row]) -> Result<(), RegisterFault>
     ensures { result ≡ checked rows.now }
 {
-    if are_acceptable(rows) {
-        Ok(())
-    } else {
-        Err(RegisterFault::BadRows)
-    }
+    are_acceptable(rows)
+        .then_some(())
+        .ok_or(RegisterFault::BadRows)
 }
 
 impl<'a> RowRegister<'a> {

@@ -45,6 +45,7 @@ fn sum_within(a: u64, b: u64) -> Option<u64>
 pub(crate) fn total_within(rows: &[Row], issue: u64) -> Option<u64>
     ensures { result ≡ total_if_within issue rows.now }
 {
+    // A loop: `try_fold` was tried, and that its answer is the total stayed open.
     let mut sum = 0;
     for r in rows {
         if r.issue == issue {
@@ -64,6 +65,7 @@ fn is_capped(rows: &[Row], issue: u64) -> bool
 pub(crate) fn are_capped(rows: &[Row]) -> bool
     ensures { result ≡ capped rows.now }
 {
+    // `1..=LAST_ISSUE` was tried: what the library proves of the numbers that a range yields is for `a..b`.
     (1..LAST_ISSUE + 1).all(|issue| is_capped(rows, issue))
 }
 

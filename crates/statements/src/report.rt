@@ -1,5 +1,5 @@
 // The statement of the rows that an input lists.
-ghost use Rattle.std.specs.Prelude.{◌≡◌, ◌++◌, IfOk, string_bytes, OnOk};
+ghost use Rattle.std.specs.Prelude.{◌≡◌, IfOk, string_bytes, OnOk};
 ghost use Rattle.statements.specs.Report.{statement_of, Reported, Line};
 
 use super::read::read_row;

@@ -10,8 +10,8 @@ use register::holding::{LAST_ISSUE, Row};
 use std::alloc::AllocError;
 use std::fmt;
 
-// The line of a fault that is not a line's.
-#[derive(Clone, Copy)]
+// The line that refuses all rows together.
+#[derive(Clone, Copy, PartialEq, Eq, Debug)]
 pub(crate) struct Refused(pub(crate) RegisterFault);
 
 impl fmt::Display for Refused {
@@ -23,7 +23,7 @@ impl fmt::Display for Refused {
 }
 
 // The line of a malformed line, by its number and its column.
-#[derive(Clone, Copy)]
+#[derive(Clone, Copy, PartialEq, Eq, Debug)]
 pub(crate) struct Unread {
     pub(crate) number: usize,
     pub(crate) column: usize,

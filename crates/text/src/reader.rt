@@ -1,5 +1,5 @@
 // A reader of one line, which knows the column at which the line stops being a form.
-ghost use Rattle.std.specs.Prelude.{◌≡◌, ℕ, ◌+◌, ◌^◌, ◌<◌, ◌≤◌, length, drop, MatchResult};
+ghost use Rattle.std.specs.Prelude.{◌≡◌, ℕ, ◌+◌, ◌^◌, ◌<◌, ◌≤◌, length, drop};
 ghost use Rattle.std.specs.Str.Parse.{digits_value};
 ghost use Rattle.text.specs.Tokens.{Digits, TokenAt};
 ghost use Rattle.text.specs.Tree.{Gram, lit, lits, num, end_byte, Reads, Ends};
@@ -29,7 +29,7 @@ const MAX_DIGITS: usize = 13;
 // The number that digits write.
 fn digits_value(ds: &[u8]) -> u64
     requires digits { Digits ds.now }
-    requires short { length ds.now ≤ MAX_DIGITS }
+    requires short { length ds.now ≤ 13 }
     ensures { result ≡ digits_value 10 ds.now }
 {
     // A loop: in a `fold`, the closure would have to show for each digit that the number still fits.
@@ -55,7 +55,7 @@ impl<'a> Reader<'a> {
         first_token(&self.line[self.at..])
     }
 
-    // No form's text goes on so, so many bytes past the place reached.
+    // The fault of a byte that stands this far past the place reached: no form's text goes on with it.
     fn malformed(&self, past: usize) -> Malformed
         requires { self.now.at + past < 2 ^ 63 }
         ensures { result.column ≡ self.now.at + past + 1 }
