@@ -11,6 +11,7 @@ mod lowest;
 mod reads;
 mod writes;
 
+// An array and no collection: the market uses no heap, and the strip has a byte for each place.
 // Each place is free or holds a live order: numbers and stamps differ, and every order is within its bounds.
 #[derive(Drop)]
 pub struct Places {

@@ -12,7 +12,7 @@ mod questions;
 // Clauses say 1000000 in digits, so that they bind this number too.
 const LAST_STAMP: u64 = 1_000_000;
 
-// The last number and the last stamp given. What changes no counter says so in one clause; it is a fact of each call, and none of the table.
+// The last number and the last stamp given. A call that gives neither says so in one clause: that is a fact of the call, so no invariant of the table can say it.
 #[derive(Clone, Copy, PartialEq, Eq, Debug)]
 pub struct Given {
     number: u64,
@@ -20,7 +20,7 @@ pub struct Given {
 }
 
 // No live order has a number or a stamp above the last given.
-// It has no model: its callers see the places too, over which the strip's marks stand, and a book alone would hide them.
+// It has no model: a view of the book alone would hide the places, which callers see too, as those that the strip marks.
 #[derive(Drop)]
 pub struct Table {
     places: Places,

@@ -27,6 +27,10 @@ breaks_least Plain q = false
 breaks_least All q = false
 breaks_least (Least m) q = m == 0 || nat_lt q m
 
+-- a limit, a quantity and a term within their bounds
+abbrev pub Bounded : ℕ → ℕ → Term → Type 0
+Bounded p q t = (breaks_price p ≡ false) × ((breaks_quantity q ≡ false) × (breaks_least t q ≡ false))
+
 abbrev pub in_bounds : Order → Bool
 in_bounds o = not (breaks_price o.price || (breaks_quantity o.left || breaks_least o.term o.left))
 

@@ -27,10 +27,7 @@ pub fn quantity_breaks(quantity: u64) -> bool
 pub fn least_breaks(term: Term, quantity: u64) -> bool
     ensures { result ≡ breaks_least term quantity }
 {
-    match term {
-        Term::Plain | Term::All => false,
-        Term::Least(m) => !(1..=quantity).contains(&m),
-    }
+    matches!(term, Term::Least(m) if !(1..=quantity).contains(&m))
 }
 
 // The order keeps its bounds.

@@ -1,14 +1,17 @@
 // The words of the market: orders, trades and calls.
+ghost use Rattle.std.specs.Prelude.{◌≡◌};
 
-#[derive(Clone, Copy, PartialEq, Eq, PartialOrd, Ord, Debug)]
+#[derive(Clone, Copy, Default, PartialEq, Eq, PartialOrd, Ord, Debug)]
 pub enum Side {
+    #[default]
     Buy,
     Sell,
 }
 
 // Plain, or special: all (all-or-none) or least m (minimum fill).
-#[derive(Clone, Copy, PartialEq, Eq, Debug)]
+#[derive(Clone, Copy, Default, PartialEq, Eq, Debug)]
 pub enum Term {
+    #[default]
     Plain,
     All,
     Least(u64),
@@ -21,7 +24,7 @@ pub enum Life {
     Now,
 }
 
-// A limit, or the price of the best order opposite. Not an Option: absent would not say that the order takes any price.
+// A limit, or the price of the best order opposite. Not an Option: absent would not say where the limit comes from.
 #[derive(Clone, Copy, PartialEq, Eq, Debug)]
 pub enum Price {
     Limit(u64),
@@ -29,7 +32,7 @@ pub enum Price {
 }
 
 // A live order.
-#[derive(Clone, Copy, PartialEq, Eq, Debug)]
+#[derive(Clone, Copy, Default, PartialEq, Eq, Debug)]
 pub struct Order {
     pub number: u64,
     pub account: u64,
@@ -51,6 +54,23 @@ pub struct Trade {
     pub seller: u64,
     pub quantity: u64,
     pub price: u64,
+}
+
+impl Trade {
+    // A buy and a sell trade so many shares of an issue at a price.
+    pub fn between(issue: u64, buy: &Order, sell: &Order, quantity: u64, price: u64) -> Trade
+        ensures { result ≡ record { issue = issue; buy = buy.now.number; sell = sell.now.number; buyer = buy.now.account; seller = sell.now.account; quantity = quantity; price = price } }
+    {
+        Trade {
+            issue,
+            buy: buy.number,
+            sell: sell.number,
+            buyer: buy.account,
+            seller: sell.account,
+            quantity,
+            price,
+        }
+    }
 }
 
 // What an entry asks for.

@@ -7,28 +7,13 @@ ghost use Rattle.orders.specs.declared.rank.Stamped.{Stamped};
 
 use crate::order::{Order, Side};
 use crate::ranked::Ranked;
-use crate::sides::is_special;
 
-// x ranks before y: buys before sells, on one side the better price, then plain before special, then the earlier stamp.
-pub fn ranks_before(x: &Order, y: &Order) -> bool
-    ensures { result ≡ ahead x.now y.now }
-{
-    let by_price = match x.side {
-        Side::Buy => y.price.cmp(&x.price),
-        Side::Sell => x.price.cmp(&y.price),
-    };
-    x.side
-        .cmp(&y.side)
-        .then(by_price)
-        .then(is_special(x.term).cmp(&is_special(y.term)))
-        .then(x.stamp.cmp(&y.stamp))
-        .is_lt()
-}
-
-pub fn is_earlier(x: &Order, y: &Order) -> bool
-    ensures { result ≡ earlier x.now y.now }
-{
-    x.stamp < y.stamp
+impl Order {
+    pub fn is_earlier(&self, other: &Order) -> bool
+        ensures { result ≡ earlier self.now other.now }
+    {
+        self.stamp < other.stamp
+    }
 }
 
 impl Ranked for Order {
@@ -36,8 +21,18 @@ impl Ranked for Order {
 
     ghost ranks = { ahead_ranks };
 
+    // Buys before sells, on one side the better price, then plain before special, then the earlier stamp.
     fn precedes(&self, other: &Order) -> bool {
-        ranks_before(self, other)
+        let by_price = match self.side {
+            Side::Buy => other.price.cmp(&self.price),
+            Side::Sell => self.price.cmp(&other.price),
+        };
+        self.side
+            .cmp(&other.side)
+            .then(by_price)
+            .then(self.term.is_special().cmp(&other.term.is_special()))
+            .then(self.stamp.cmp(&other.stamp))
+            .is_lt()
     }
 }
 
@@ -53,6 +48,6 @@ impl Ranked for Stamped {
     ghost ranks = { IsStrictWeakOrder-by_number (λ (x : Stamped). x.order.stamp) };
 
     fn precedes(&self, other: &Stamped) -> bool {
-        is_earlier(&self.order, &other.order)
+        self.order.is_earlier(&other.order)
     }
 }

@@ -35,8 +35,8 @@ fn choose<T: Ranked + Copy>(best: &mut Option<(usize, T)>, place: usize, x: T)
 }
 
 // The first entry by rank, with its place, of those that `look` finds at the places below `places`: one or none at each.
-// A loop: as a chain of filter_map and reduce it was tried, and two goals stayed open, that `look` may be called at each turn and what comes out,
-// since `look` is known at the places below `places` alone.
+// A loop: of a chain of `filter_map` and `reduce` it was not proved that `look` may be called at each turn, since it may at places below `places` alone.
+// A closure, and no iterator as the argument: callers ask for the place of what they find.
 pub fn first<T: Ranked + Copy, F: Fn(usize) -> Option<T>>(
     places: usize,
     look: F,

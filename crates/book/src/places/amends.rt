@@ -1,6 +1,6 @@
 // One live order changed in its place.
 ghost use Rattle.std.specs.Prelude.{◌≡◌, true, false, is_some, unwrap_or, IfSome};
-ghost use Rattle.orders.specs.Orders.{breaks_price, breaks_quantity, breaks_least};
+ghost use Rattle.orders.specs.Orders.{Bounded};
 ghost use Rattle.orders.specs.Book.{stamp_of, changed, amended, suspended, resumed};
 ghost use Rattle.book.specs.Places.{book, Under};
 
@@ -37,7 +37,7 @@ impl Places {
 
     // Sets quantity left, price and term of an order, and its stamp if there is a new one.
     pub fn amend(&mut self, number: u64, quantity: u64, price: u64, term: Term, fresh: Option<u64>)
-        requires bounds { (breaks_price price ≡ false) × ((breaks_quantity quantity ≡ false) × (breaks_least term quantity ≡ false)) }
+        requires bounds { Bounded price quantity term }
         requires stamp { IfSome fresh (λ k. Under stamp_of k (book self.old.slots)) }
         ensures { book self.new.slots ≡ changed number (amended quantity price term (is_some fresh) (unwrap_or fresh 0)) (book self.old.slots) }
     {

@@ -50,7 +50,7 @@ impl Places {
         self.slots[place] = slot;
     }
 
-    // The order at a place is lent, to be written with q less left.
+    // The order at a place is lent, and written whole with q less left by what it is lent to.
     fn lower(&mut self, place: usize, q: u64)
         requires place { place < 256 }
         requires less { MatchOption (at self.old.slots place) ⊥ (λ o. q < o.left) }

@@ -10,7 +10,6 @@ ghost use Rattle.book.specs.Table.{book_of, at_place};
 use super::Table;
 use orders::order::{Order, Side};
 use orders::ranked::first;
-use orders::sides::is_working_opposite;
 use orders::strip::PLACES;
 
 impl Table {
@@ -32,6 +31,6 @@ impl Table {
     pub fn best_opposite(&self, issue: u64, side: Side) -> Option<Order>
         ensures { result ≡ best_opposite issue side (book_of self.now) }
     {
-        self.best(|o| is_working_opposite(o, issue, side))
+        self.best(|o| o.is_working_opposite(issue, side))
     }
 }

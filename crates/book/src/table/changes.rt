@@ -1,12 +1,12 @@
 // What changes the table.
 ghost use Rattle.std.specs.Prelude.{◌≡◌, ◌+◌, ◌<◌, ◌≤◌, true, false, [], ◌∷◌, ◌++◌, length, IfNone, if◌then◌else◌};
-ghost use Rattle.orders.specs.Orders.{breaks_price, breaks_quantity, breaks_least};
-ghost use Rattle.orders.specs.Book.{find, placed, changed, amended, suspended, resumed, without, first_then, reduced};
+ghost use Rattle.orders.specs.Orders.{Bounded};
+ghost use Rattle.orders.specs.Book.{find, placed, changed, amended, suspended, resumed, without, first_then, reduced, after_trade};
 ghost use Rattle.book.specs.Table.{book_of};
 
 use super::{Given, Table};
 use crate::places::Places;
-use orders::order::{Entry, Order, Term};
+use orders::order::{Entry, Order, Term, Trade};
 
 impl Table {
     pub fn new() -> Table
@@ -28,7 +28,7 @@ impl Table {
     pub fn place(&mut self, entry: Entry, price: u64) -> u64
         requires room { length (book_of self.old) < 256 }
         requires stamp { self.old.given.stamp < 1000000 }
-        requires bounds { (breaks_price price ≡ false) × ((breaks_quantity entry.quantity ≡ false) × (breaks_least entry.term entry.quantity ≡ false)) }
+        requires bounds { Bounded price entry.quantity entry.term }
         ensures given { result ≡ self.old.given.number + 1 }
         ensures book { book_of self.new ≡ book_of self.old ++ (placed entry price (self.old.given.number + 1) (self.old.given.stamp + 1) ∷ []) }
         ensures live { length (book_of self.new) ≡ length (book_of self.old) + 1 }
@@ -37,23 +37,32 @@ impl Table {
     {
         self.given.number += 1;
         self.given.stamp += 1;
+        let Given { number, stamp } = self.given;
+        let Entry {
+            account,
+            issue,
+            side,
+            quantity,
+            term,
+            ..
+        } = entry;
         self.places.add(Order {
-            number: self.given.number,
-            account: entry.account,
-            issue: entry.issue,
-            side: entry.side,
+            number,
+            account,
+            issue,
+            side,
             price,
-            left: entry.quantity,
-            term: entry.term,
-            stamp: self.given.stamp,
+            left: quantity,
+            term,
+            stamp,
             working: true,
         });
-        self.given.number
+        number
     }
 
     // Sets quantity left, price and term of an order, and gives it the next stamp if `again`: no Option, since that stamp is the table's own.
     pub fn amend(&mut self, number: u64, quantity: u64, price: u64, term: Term, again: bool)
-        requires bounds { (breaks_price price ≡ false) × ((breaks_quantity quantity ≡ false) × (breaks_least term quantity ≡ false)) }
+        requires bounds { Bounded price quantity term }
         requires stamp { again ≡ true → self.old.given.stamp < 1000000 }
         ensures book { book_of self.new ≡ changed number (amended quantity price term again (self.old.given.stamp + 1)) (book_of self.old) }
         ensures live { length (book_of self.new) ≡ length (book_of self.old) }
@@ -112,5 +121,14 @@ impl Table {
         ensures given { self.new.given ≡ self.old.given }
     {
         self.places.take(number, q);
+    }
+
+    // Makes a trade: its sell has so many shares less left, then its buy.
+    pub fn trade(&mut self, t: &Trade)
+        ensures book { book_of self.new ≡ after_trade t.now (book_of self.old) }
+        ensures given { self.new.given ≡ self.old.given }
+    {
+        self.take(t.sell, t.quantity);
+        self.take(t.buy, t.quantity);
     }
 }
