@@ -1,7 +1,8 @@
 -- What a walk takes, turn by turn.
-use Rattle.std.proofs.Common.{◌≡◌, ℕ, suc, ◌+◌, ◌-◌, ◌<◌, ◌≤◌, min, max, true, false, not, eqb, ◌⊎◌, List, [], ◌∷◌, length, fold, is_some, Some, None, Option, sym, refl, ap, ◌∙◌, inr, arith}
+use Rattle.std.proofs.Common.{◌≡◌, ℕ, suc, ◌+◌, ◌-◌, ◌<◌, ◌≤◌, min, max, true, false, not, eqb, ◌⊎◌, List, [], ◌∷◌, length, get_or, drop, fold, is_some, Some, None, Option, sym, refl, ap, ◌∙◌, inr, arith}
 use Rattle.std.proofs.lemmas.Bool.{cond_both}
 use Rattle.std.proofs.lemmas.Bool.Decides.{nat_tests}
+use Rattle.std.proofs.lemmas.List.{at_drop_more}
 use Rattle.std.proofs.ByRecursion.{all_kept_by}
 use Rattle.std.specs.List.{AllByRecursion as EveryOne}
 use Rattle.orders.specs.declared.order.Order.{Order}
@@ -26,6 +27,16 @@ gives_none t left = grind (arith, gives_lesser t left 0)
 pub walk_none : (os : List Order) → walk 0 os ≡ []
 walk_none [] = refl
 walk_none (o ∷ os) = let g = gives_none o.term o.left in let ih = walk_none os in grind arith
+
+-- ---- a turn of the walk
+pub next_order : (os : List Order) (n : ℕ) (o : Order) → (n < length os) × (o ≡ get_or os n o) → drop n os ≡ o ∷ drop (n + 1) os
+next_order os n o h = at_drop_more (λ l. l) os n o h.0 ∙ ap (λ x. x ∷ drop (n + 1) os) (sym h.1)
+
+pub walk_taken : (w q : ℕ) (o : Order) (os : List Order) → q ≡ gives o.term o.left w → 0 < q → walk w (o ∷ os) ≡ part o q ∷ walk (w - q) os
+walk_taken w q o os is some = grind (arith, nat_tests)
+
+pub walk_passed : (w q : ℕ) (o : Order) (os : List Order) → q ≡ gives o.term o.left w → q ≤ 0 → walk w (o ∷ os) ≡ walk w os
+walk_passed w q o os is none = let z : w - q ≡ w = omega (arith, none) in grind (arith, nat_tests)
 
 -- ---- the amount
 amount_taken : (o : Order) (q : ℕ) (ps : List Part) → amount (taken o q ps) ≡ q + amount ps

@@ -1,8 +1,8 @@
 // An attempt: its trades on the tape and on the table.
-ghost use Rattle.std.specs.Prelude.{◌≡◌, ◌+◌, ◌≤◌, true, length, Some};
+ghost use Rattle.std.specs.Prelude.{◌≡◌, ◌≤◌, true, length, Some};
 ghost use Rattle.orders.specs.Book.{find, after};
 ghost use Rattle.orders.specs.Strip.{clean};
-ghost use Rattle.book.specs.Table.{book_of};
+ghost use Rattle.book.specs.Table.{book_of, Made};
 ghost use Rattle.orders.specs.Tape.{recorded};
 ghost use Rattle.matching.specs.Attempt.{attempt as trades_by, attempt_of};
 
@@ -19,8 +19,7 @@ fn make(table: &mut Table, trades: &[Trade])
     ensures given { table.new.given ≡ table.old.given }
 {
     for t in trades {
-        table.take(t.sell, t.quantity);
-        table.take(t.buy, t.quantity);
+        table.trade(t);
     }
 }
 
@@ -30,8 +29,7 @@ fn planned(table: &Table, strip: &mut [u8], a: &Order) -> ArrayVec<Trade, PLACES
     ensures trades { result.items ≡ trades_by a.now (book_of table.now) }
     ensures strip { strip.new ≡ strip.old }
 {
-    let rows = list(table, strip, a.issue);
-    plan(a, &rows)
+    plan(a, &list(table, strip, a.issue).rows)
 }
 
 // Writes the trades at the start of the tape's free part.
@@ -47,11 +45,7 @@ fn attempt_live(table: &mut Table, strip: &mut [u8], free: &mut [Trade], a: &Ord
     requires live { (find a.now.number (book_of table.old) ≡ Some a.now) × (a.now.working ≡ true) }
     requires strip { clean strip.old ≡ true }
     requires room { length (book_of table.old) ≤ length free.old }
-    ensures book { book_of table.new ≡ after (trades_by a.now (book_of table.old)) (book_of table.old) }
-    ensures given { table.new.given ≡ table.old.given }
-    ensures tape { free.new ≡ recorded 0 (trades_by a.now (book_of table.old)) free.old }
-    ensures trades { result ≡ length (trades_by a.now (book_of table.old)) }
-    ensures few { result + length (book_of table.new) ≤ length (book_of table.old) }
+    ensures made { Made (trades_by a.now (book_of table.old)) result table.old table.new free.old free.new }
     ensures strip { strip.new ≡ strip.old }
 {
     let trades = planned(table, strip, a);
@@ -61,15 +55,11 @@ fn attempt_live(table: &mut Table, strip: &mut [u8], free: &mut [Trade], a: &Ord
 }
 
 // The attempt of the live order of this number, if it is working: its trades stand at the start of the tape's free part and are made. Answers how many there are.
-// The market lends a clean strip and room for as many trades as there are live orders.
+// The market lends a clean strip and room for as many trades as there are live orders: a fact about table and tape together, so a clause and no type.
 pub fn attempt(table: &mut Table, strip: &mut [u8], free: &mut [Trade], number: u64) -> usize
     requires strip { clean strip.old ≡ true }
     requires room { length (book_of table.old) ≤ length free.old }
-    ensures book { book_of table.new ≡ after (attempt_of number (book_of table.old)) (book_of table.old) }
-    ensures given { table.new.given ≡ table.old.given }
-    ensures tape { free.new ≡ recorded 0 (attempt_of number (book_of table.old)) free.old }
-    ensures trades { result ≡ length (attempt_of number (book_of table.old)) }
-    ensures few { result + length (book_of table.new) ≤ length (book_of table.old) }
+    ensures made { Made (attempt_of number (book_of table.old)) result table.old table.new free.old free.new }
     ensures strip { strip.new ≡ strip.old }
 {
     match table.order(number) {

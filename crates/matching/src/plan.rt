@@ -2,7 +2,7 @@
 ghost use Rattle.std.specs.Prelude.{◌≡◌, ◌+◌, ◌≤◌, ◌++◌, length, filter};
 ghost use Rattle.matching.specs.Walk.{walk};
 ghost use Rattle.matching.specs.Attempt.{trade_of, trades_of};
-ghost use Rattle.matching.specs.Listing.{orders_in, left_out, meets, attempt_over};
+ghost use Rattle.matching.specs.Listing.{orders_in, meets, attempt_over};
 
 use crate::listed::Listed;
 use crate::walk::{does_face, fills, first_to_give, offer};
@@ -18,15 +18,7 @@ fn trade(a: &Order, o: &Order, quantity: u64) -> Trade
         Side::Buy => (a, o),
         Side::Sell => (o, a),
     };
-    Trade {
-        issue: a.issue,
-        buy: buy.number,
-        sell: sell.number,
-        buyer: buy.account,
-        seller: sell.account,
-        quantity,
-        price: o.price,
-    }
+    Trade::between(a.issue, buy, sell, quantity, o.price)
 }
 
 // The active order a walks o, which is not left out.
@@ -47,14 +39,17 @@ fn walk_on(
     requires { length trades.old.items + length (filter (meets skip a.now) (orders_in rows.now)) ≤ 256 }
     ensures { trades.new.items ≡ trades.old.items ++ trades_of a.now (walk wanted (filter (meets skip a.now) (orders_in rows.now))) }
 {
+    // A loop: each trade is pushed, and of what a closure pushes nothing is known after it.
     let mut left = wanted;
-    for row in rows {
-        if does_meet(skip, a, &row.order) {
-            let q = offer(row.order.term, row.order.left, left);
-            if q > 0 {
-                trades.push(trade(a, &row.order, q));
-                left -= q;
-            }
+    for o in rows
+        .iter()
+        .map(|row| row.order)
+        .filter(|o| does_meet(skip, a, o))
+    {
+        let q = offer(&o, left);
+        if q > 0 {
+            trades.push(trade(a, &o, q));
+            left -= q;
         }
     }
 }
@@ -66,15 +61,11 @@ pub fn plan(a: &Order, rows: &[Listed]) -> ArrayVec<Trade, PLACES>
 {
     let mut trades = ArrayVec::new();
     match a.term {
-        Term::Plain => walk_on(a, rows, None, a.left, &mut trades),
-        Term::All => {
-            if fills(a, rows) {
-                walk_on(a, rows, None, a.left, &mut trades);
-            }
-        }
+        Term::All if !fills(a, rows) => {}
+        Term::Plain | Term::All => walk_on(a, rows, None, a.left, &mut trades),
         Term::Least(m) => {
             if let Some(o) = first_to_give(a, m, rows) {
-                let q = offer(o.term, o.left, a.left);
+                let q = offer(&o, a.left);
                 trades.push(trade(a, &o, q));
                 walk_on(a, rows, Some(o.number), a.left - q, &mut trades);
             }

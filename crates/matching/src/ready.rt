@@ -1,20 +1,19 @@
 // Which of the listed orders are ready.
-ghost use Rattle.std.specs.Prelude.{◌≡◌, ◌<◌, length, is_some, filter};
+ghost use Rattle.std.specs.Prelude.{◌≡◌, is_some, filter};
 ghost use Rattle.std.specs.Option.{option_map};
 ghost use Rattle.orders.specs.Rank.{first_by, ahead, earlier};
 ghost use Rattle.orders.specs.Stamps.{stamped};
 ghost use Rattle.book.specs.Table.{book_of};
 ghost use Rattle.matching.specs.Walk.{first_giving};
-ghost use Rattle.matching.specs.Rounds.{any_trade, special_in, on_side, ready, first_ready};
-ghost use Rattle.matching.specs.Listing.{Lists, facing, attempt_over, ready_over, ready_on, ready_at, first_row};
+ghost use Rattle.matching.specs.Rounds.{any_trade, special_in, on_side, first_ready};
+ghost use Rattle.matching.specs.Listing.{facing, attempt_over, ready_over, ready_on, ready_at, readies, first_row};
 
 use crate::listed::Listed;
+use crate::listing::Listing;
 use crate::walk::{fills, first_to_give};
-use book::table::Table;
 use orders::order::{Order, Side, Term};
 use orders::rank::Stamped;
 use orders::ranked::first;
-use orders::sides::is_special;
 
 // Some listed order gives the active order a part of at least m.
 fn is_given(a: &Order, m: u64, rows: &[Listed]) -> bool
@@ -37,70 +36,68 @@ fn would_trade(a: &Order, rows: &[Listed]) -> bool
 fn is_special_in(o: &Order, issue: u64) -> bool
     ensures { result ≡ special_in issue o.now }
 {
-    o.issue == issue && is_special(o.term) && o.working
+    o.issue == issue && o.term.is_special() && o.working
 }
 
-fn is_ready(o: &Order, issue: u64, rows: &[Listed]) -> bool
-    ensures { result ≡ ready_over issue rows.now o.now }
-{
-    is_special_in(o, issue) && would_trade(o, rows)
-}
+impl Listing<'_> {
+    fn is_ready(&self, o: &Order) -> bool
+        ensures { result ≡ ready_over self.now.issue self.now.rows.items o.now }
+    {
+        is_special_in(o, self.issue) && would_trade(o, &self.rows)
+    }
 
-fn is_ready_on(o: &Order, issue: u64, side: Side, rows: &[Listed]) -> bool
-    ensures { result ≡ ready_on issue side rows.now o.now }
-{
-    o.side == side && is_ready(o, issue, rows)
-}
+    fn is_ready_on(&self, o: &Order, side: Side) -> bool
+        ensures { result ≡ ready_on self.now.issue side self.now.rows.items o.now }
+    {
+        o.side == side && self.is_ready(o)
+    }
 
-// The place of the first ready order on the side, by rank. A loop that leaves by `break`, a form that the project has to keep.
-fn ready_place(rows: &[Listed], issue: u64, side: Side) -> Option<usize>
-    ensures { result ≡ option_map (λ x. x.place) (first_row (ready_on issue side rows.now) rows.now) }
-{
-    let mut place = None;
-    for row in rows {
-        if is_ready_on(&row.order, issue, side, rows) {
-            place = Some(row.place);
-            break;
+    // The place of the first ready order on the side, by rank. The loop leaves by `break` with the place, a form that docs/DECISIONS.md names.
+    fn ready_place(&self, side: Side) -> Option<usize>
+        ensures { result ≡ option_map (λ x. x.place) (first_row (ready_on self.now.issue side self.now.rows.items) self.now.rows.items) }
+    {
+        let mut rest = self.rows.iter();
+        loop {
+            match rest.next() {
+                None => break None,
+                Some(row) if self.is_ready_on(&row.order, side) => break Some(row.place),
+                Some(_) => {}
+            }
         }
     }
-    place
-}
 
-// The first ready order on the side, by rank.
-fn first_on_side(table: &Table, rows: &[Listed], issue: u64, side: Side) -> Option<Order>
-    requires { Lists table.now issue rows.now }
-    ensures { result ≡ first_by ahead (filter (on_side side) (filter (ready issue (book_of table.now)) (book_of table.now))) }
-{
-    let place = ready_place(rows, issue, side)?;
-    table.get(place)
-}
+    // The first ready order on the side, by rank.
+    fn first_on_side(&self, side: Side) -> Option<Order>
+        ensures { result ≡ first_by ahead (filter (on_side side) (readies self.now.issue (book_of self.now.table.now))) }
+    {
+        let place = self.ready_place(side)?;
+        self.table.get(place)
+    }
 
-// The order of a row, to be ranked by its stamp, if it is ready.
-fn ready_row(rows: &[Listed], issue: u64, k: usize) -> Option<Stamped>
-    requires { k < length rows.now }
-    ensures { result ≡ stamped (ready_at issue rows.now k) }
-{
-    let order = rows[k].order;
-    is_ready(&order, issue, rows).then_some(Stamped { order })
-}
+    // The order of a row, to be ranked by its stamp, if it is ready.
+    fn ready_row(&self, k: usize) -> Option<Stamped>
+        ensures { result ≡ stamped (ready_at self.now.issue self.now.rows.items k) }
+    {
+        let order = self.rows.get(k)?.order;
+        self.is_ready(&order).then_some(Stamped { order })
+    }
 
-// The ready order with the lowest stamp. By `first`, not `min_by_key`, after which it is not proved that no order that passes a `filter` has a lower stamp.
-fn earliest(table: &Table, rows: &[Listed], issue: u64) -> Option<Order>
-    requires { Lists table.now issue rows.now }
-    ensures { result ≡ first_by earlier (filter (ready issue (book_of table.now)) (book_of table.now)) }
-{
-    first(rows.len(), |k| ready_row(rows, issue, k)).map(|(_, found)| found.order)
-}
+    // The ready order with the lowest stamp. By `first`, not `min_by_key`, after which it is not proved that no order that passes a `filter` has a lower stamp.
+    fn earliest(&self) -> Option<Order>
+        ensures { result ≡ first_by earlier (readies self.now.issue (book_of self.now.table.now)) }
+    {
+        first(self.rows.len(), |k| self.ready_row(k)).map(|(_, found)| found.order)
+    }
 
-// The ready order that is active: where both sides have ready orders, the one with the lowest stamp; where one side has, its first by rank.
-pub fn ready_order(table: &Table, rows: &[Listed], issue: u64) -> Option<Order>
-    requires { Lists table.now issue rows.now }
-    ensures { result ≡ first_ready (filter (ready issue (book_of table.now)) (book_of table.now)) }
-{
-    let buy = first_on_side(table, rows, issue, Side::Buy);
-    let sell = first_on_side(table, rows, issue, Side::Sell);
-    match (buy, sell) {
-        (Some(_), Some(_)) => earliest(table, rows, issue),
-        _ => buy.or(sell),
+    // The ready order that is active: where both sides have ready orders, the one with the lowest stamp; where one side has, its first by rank.
+    pub fn ready_order(&self) -> Option<Order>
+        ensures { result ≡ first_ready (readies self.now.issue (book_of self.now.table.now)) }
+    {
+        let buy = self.first_on_side(Side::Buy);
+        let sell = self.first_on_side(Side::Sell);
+        match (buy, sell) {
+            (Some(_), Some(_)) => self.earliest(),
+            _ => buy.or(sell),
+        }
     }
 }

@@ -1,9 +1,7 @@
 // Rounds until no order is active.
-ghost use Rattle.std.specs.Prelude.{◌≡◌, ◌+◌, ◌≤◌, true, length};
-ghost use Rattle.orders.specs.Book.{after};
+ghost use Rattle.std.specs.Prelude.{◌≡◌, ◌≤◌, true, length};
 ghost use Rattle.orders.specs.Strip.{clean};
-ghost use Rattle.book.specs.Table.{book_of};
-ghost use Rattle.orders.specs.Tape.{recorded};
+ghost use Rattle.book.specs.Table.{book_of, Made};
 ghost use Rattle.matching.specs.Rounds.{all_rounds};
 ghost use Rattle.matching.specs.Laws.{Quiet};
 
@@ -17,17 +15,13 @@ use orders::order::Trade;
 pub fn rounds(table: &mut Table, strip: &mut [u8], free: &mut [Trade], issue: u64) -> (usize, u64)
     requires strip { clean strip.old ≡ true }
     requires room { length (book_of table.old) ≤ length free.old }
-    ensures book { book_of table.new ≡ after (all_rounds issue (book_of table.old)).trades (book_of table.old) }
-    ensures given { table.new.given ≡ table.old.given }
-    ensures tape { free.new ≡ recorded 0 (all_rounds issue (book_of table.old)).trades free.old }
-    ensures trades { result.0 ≡ length (all_rounds issue (book_of table.old)).trades }
+    ensures made { Made (all_rounds issue (book_of table.old)).trades result.0 table.old table.new free.old free.new }
     ensures rounds { result.1 ≡ (all_rounds issue (book_of table.old)).count }
-    ensures few { result.0 + length (book_of table.new) ≤ length (book_of table.old) }
     ensures each { result.1 ≤ result.0 }
     ensures quiet { Quiet issue (book_of table.new) }
     ensures strip { strip.new ≡ strip.old }
 {
-    // Counted by hand: a round changes the table that the next one is found in, so there is no iterator of them.
+    // Counted by hand: each round changes the table, and of what a closure changes nothing is known after it, so no `iter::from_fn`.
     let mut end = 0;
     let mut count: u64 = 0;
     while let Some(a) = active(table, strip, issue) {

@@ -1,28 +1,28 @@
 // Walks over listed orders that change nothing.
+// The active order and the rows stay two parameters: who is ready is found by taking each listed order in turn for the active one.
 ghost use Rattle.std.specs.Prelude.{◌≡◌, ◌≤◌, ◌-◌, ◌==◌, fold};
 ghost use Rattle.matching.specs.Walk.{faces, gives, walk, amount, first_giving};
 ghost use Rattle.matching.specs.Listing.{facing};
 
 use crate::listed::Listed;
 use orders::order::{Order, Term};
-use orders::sides::{is_within, is_working_opposite};
 
 // The active order a walks o.
 pub fn does_face(a: &Order, o: &Order) -> bool
     ensures { result ≡ faces a.now o.now }
 {
-    is_working_opposite(o, a.issue, a.side) && is_within(a.side, a.price, o.price)
+    o.is_working_opposite(a.issue, a.side) && a.side.is_within(a.price, o.price)
 }
 
 // What a waiting order gives where w is wanted.
-pub fn offer(term: Term, left: u64, w: u64) -> u64
-    ensures is { result ≡ gives term left w }
+pub fn offer(o: &Order, w: u64) -> u64
+    ensures is { result ≡ gives o.now.term o.now.left w }
     ensures few { result ≤ w }
 {
-    let q = w.min(left);
-    match term {
+    let q = w.min(o.left);
+    match o.term {
         Term::Plain => q,
-        Term::All => { if left <= w { left } else { 0 } }
+        Term::All => { if o.left <= w { o.left } else { 0 } }
         Term::Least(m) => { if m <= q { q } else { 0 } }
     }
 }
@@ -34,7 +34,7 @@ fn unfilled(a: &Order, rows: &[Listed]) -> u64
     rows.iter()
         .map(|row| row.order)
         .filter(|o| does_face(a, o))
-        .fold(a.left, |w, o| w - offer(o.term, o.left, w))
+        .fold(a.left, |w, o| w - offer(&o, w))
 }
 
 // The parts of the active order's walk add up to all that it has left.
@@ -51,5 +51,5 @@ pub fn first_to_give(a: &Order, m: u64, rows: &[Listed]) -> Option<Order>
     rows.iter()
         .map(|row| row.order)
         .filter(|o| does_face(a, o))
-        .find(|o| m.max(1) <= offer(o.term, o.left, a.left))
+        .find(|o| m.max(1) <= offer(o, a.left))
 }

@@ -41,7 +41,7 @@ pub fn lists_alike()
     ensures { ListsAlike }
 {}
 
-// The row decides nothing.
+// The place that holds an order decides nothing.
 pub fn rows_free()
     ensures { RowsFree }
 {}

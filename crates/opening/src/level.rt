@@ -6,7 +6,6 @@ ghost use Rattle.opening.specs.Opening.{takes_part, share, quantity_at};
 
 use book::table::Table;
 use orders::order::{Order, Side};
-use orders::sides::{is_plain_in, is_within};
 use orders::strip::PLACES;
 
 // A price of an issue.
@@ -21,7 +20,7 @@ impl Level {
     fn takes_part(self, o: &Order, side: Side) -> bool
         ensures { result ≡ takes_part self.issue self.price side o.now }
     {
-        is_plain_in(o, self.issue, side) && is_within(side, o.price, self.price)
+        o.is_plain_in(self.issue, side) && side.is_within(o.price, self.price)
     }
 
     // The best-ranked order of the side that takes part.

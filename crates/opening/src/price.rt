@@ -10,11 +10,11 @@ use crate::level::Level;
 use book::table::Table;
 use orders::order::{Order, Side};
 use orders::ranked::first;
-use orders::sides::is_special;
 use orders::strip::PLACES;
 
-// The figures of a price. Table, issue and close stay arguments here and below: with methods of a struct of the three each clause would read
-// `self.now.table.now` for `table.now`, and the check does not find `candidate_at` alone.
+// The figures of a price.
+// Table, issue and close stay three arguments, here and below. A struct of the three was tried: each clause would read `self.now.table.now`,
+// and the proof of `candidate_at`, the candidate at a place, did not close.
 fn figures_of(table: &Table, issue: u64, close: u64, price: u64) -> Candidate
     ensures { result ≡ figures issue (book_of table.now) close price }
 {
@@ -33,7 +33,7 @@ fn figures_of(table: &Table, issue: u64, close: u64, price: u64) -> Candidate
 fn is_plain_of(o: &Order, issue: u64) -> bool
     ensures { result ≡ plain_of issue o.now }
 {
-    o.issue == issue && o.working && !is_special(o.term)
+    o.issue == issue && o.working && !o.term.is_special()
 }
 
 // The figures of the limit of the order at a place, if it is a working plain order of the issue.

@@ -1,8 +1,7 @@
 // The opening trades.
-ghost use Rattle.std.specs.Prelude.{◌≡◌, ◌+◌, ◌≤◌, [], ◌∷◌, length, MatchOption};
-ghost use Rattle.orders.specs.Book.{after_trade, after};
-ghost use Rattle.book.specs.Table.{book_of};
-ghost use Rattle.orders.specs.Tape.{recorded};
+ghost use Rattle.std.specs.Prelude.{◌≡◌, ◌≤◌, [], ◌∷◌, length, MatchOption};
+ghost use Rattle.orders.specs.Book.{after_trade};
+ghost use Rattle.book.specs.Table.{book_of, Made};
 ghost use Rattle.opening.specs.Opening.{pairing, trades_at, opening_trades, all_trades};
 
 use crate::level::Level;
@@ -19,18 +18,9 @@ fn pair(table: &mut Table, buy: Order, sell: Order, price: u64) -> Trade
     ensures book { book_of table.new ≡ after_trade (pairing price buy sell) (book_of table.old) }
     ensures given { table.new.given ≡ table.old.given }
 {
-    let quantity = buy.left.min(sell.left);
-    table.take(sell.number, quantity);
-    table.take(buy.number, quantity);
-    Trade {
-        issue: buy.issue,
-        buy: buy.number,
-        sell: sell.number,
-        buyer: buy.account,
-        seller: sell.account,
-        quantity,
-        price,
-    }
+    let t = Trade::between(buy.issue, &buy, &sell, buy.left.min(sell.left), price);
+    table.trade(&t);
+    t
 }
 
 impl Level {
@@ -46,16 +36,12 @@ impl Level {
     }
 
     // Trades at the price until there is no more, and writes the trades to the free part of the tape. Answers how many.
-    #[tactic(auto, using(crate::proofs::Issues::few_at))]
+    #[tactic(auto, using(crate::proofs::Issues::few_at, crate::proofs::Issues::finish))]
     fn trade(self, table: &mut Table, free: &mut [Trade]) -> usize
         requires room { length (book_of table.old) ≤ length free.old }
-        ensures count { result ≡ length (trades_at self.issue self.price (book_of table.old)) }
-        ensures tape { free.new ≡ recorded 0 (trades_at self.issue self.price (book_of table.old)) free.old }
-        ensures book { book_of table.new ≡ after (trades_at self.issue self.price (book_of table.old)) (book_of table.old) }
-        ensures live { result + length (book_of table.new) ≤ length (book_of table.old) }
-        ensures given { table.new.given ≡ table.old.given }
+        ensures made { Made (trades_at self.issue self.price (book_of table.old)) result table.old table.new free.old free.new }
     {
-        // A `for` over the records of `free` would still count the trades, and would have to leave by `break`.
+        // Counted by hand: a `for` over the records of `free` would have to leave by `break`, and of what a closure changes nothing is known after it.
         let mut made = 0;
         while let Some(t) = self.next_trade(table) {
             free[made] = t;
@@ -68,12 +54,9 @@ impl Level {
 // Trades an issue at its opening price, if it has one, and writes the trades to the free part of the tape. Answers how many.
 pub fn open_issue(table: &mut Table, free: &mut [Trade], issue: u64, close: u64) -> usize
     requires room { length (book_of table.old) ≤ length free.old }
-    ensures count { result ≡ length (opening_trades issue close (book_of table.old)) }
-    ensures tape { free.new ≡ recorded 0 (opening_trades issue close (book_of table.old)) free.old }
-    ensures book { book_of table.new ≡ after (opening_trades issue close (book_of table.old)) (book_of table.old) }
-    ensures live { result + length (book_of table.new) ≤ length (book_of table.old) }
-    ensures given { table.new.given ≡ table.old.given }
+    ensures made { Made (opening_trades issue close (book_of table.old)) result table.old table.new free.old free.new }
 {
+    // No `map_or`: of what its closure would change behind `table` and `free` nothing is known after it.
     let Some(price) = opening_price(table, issue, close) else {
         return 0;
     };
@@ -81,13 +64,10 @@ pub fn open_issue(table: &mut Table, free: &mut [Trade], issue: u64, close: u64)
 }
 
 // Trades each issue from 1 up at its opening price, and writes the trades to the free part of the tape. Answers how many.
+#[tactic(auto, using(crate::proofs::Issues::none_left, crate::proofs::Issues::few_all, crate::proofs::Issues::finish))]
 pub fn open_all(table: &mut Table, free: &mut [Trade], closes: &[u64; ISSUES]) -> usize
     requires room { length (book_of table.old) ≤ length free.old }
-    ensures count { result ≡ length (all_trades 1 closes.now (book_of table.old)) }
-    ensures tape { free.new ≡ recorded 0 (all_trades 1 closes.now (book_of table.old)) free.old }
-    ensures book { book_of table.new ≡ after (all_trades 1 closes.now (book_of table.old)) (book_of table.old) }
-    ensures live { result + length (book_of table.new) ≤ length (book_of table.old) }
-    ensures given { table.new.given ≡ table.old.given }
+    ensures made { Made (all_trades 1 closes.now (book_of table.old)) result table.old table.new free.old free.new }
 {
     let mut made = 0;
     for (issue, close) in (1..).zip(closes) {

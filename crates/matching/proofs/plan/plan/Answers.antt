@@ -5,14 +5,11 @@ use Rattle.matching.proofs.Walking.{giving_shorter, least_made}
 use Rattle.matching.proofs.Listings.{few_facing, one_out}
 use Rattle.matching.proofs.plan.plan.Goals as goal
 
+pub walk_on-requires-in-Plain : goal.walk_on-requires-in-Plain
+walk_on-requires-in-Plain c = rw c.new-trades.ensures (omega (arith, few_facing (meets None c.args.a.now) c.args.rows.now, c.requires))
+
 pub walk_on-requires : goal.walk_on-requires
-walk_on-requires c = rw c.new-trades.ensures (omega (arith, few_facing (meets None c.args.a.now) c.args.rows.now, c.requires))
-
-pub walk_on-requires-then-fills : goal.walk_on-requires-then-fills
-walk_on-requires-then-fills c = rw c.new-trades.ensures (omega (arith, few_facing (meets None c.args.a.now) c.args.rows.now, c.requires))
-
-pub walk_on-requires-in-Some : goal.walk_on-requires-in-Some
-walk_on-requires-in-Some c =
+walk_on-requires c =
     let a = c.args.a.now in
     let rows = c.args.rows.now in
     rw (c.push.ensures.items, c.new-trades.ensures)
@@ -25,4 +22,4 @@ returns-in-Some c =
     let o = c.in-Some.o in
     let q = c.offer-q.result in
     let made = least_made a (facing a rows) c.in-Least.m q o c.in-Least.is c.in-Some.ensures c.offer-q.ensures.is in
-    rw (c.walk_on-in-Some.ensures, c.push.ensures.items, c.new-trades.ensures, c.trade.ensures, one_out o.number a rows, made) refl
+    rw (c.walk_on.ensures, c.push.ensures.items, c.new-trades.ensures, c.trade.ensures, one_out o.number a rows, made) refl
