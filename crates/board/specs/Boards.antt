@@ -3,8 +3,6 @@ use Rattle.std.specs.Prelude.{◌≡◌, ℕ, ◌+◌, ◌≤◌, true, false, m
 use Rattle.register.specs.declared.holding.Row.{Row}
 use Rattle.orders.specs.declared.order.Call.{Call}
 use Rattle.orders.specs.declared.order.Trade.{Trade}
-use Rattle.orders.specs.declared.order.Term.{Term}
-use Rattle.orders.specs.Orders.{breaks_price, breaks_quantity, breaks_least}
 use Rattle.orders.specs.Strip.{clean}
 use Rattle.book.specs.Table.{book_of}
 use Rattle.rules.specs.declared.fault.MarketFault.{MarketFault}
@@ -33,10 +31,6 @@ no_lent = record { clean = false; room = 0 }
 pub record Usable (b : Board) (lent : Lent) : Type 0 where
   pub clean : lent.clean ≡ true
   pub fits : b.used + length (book_of b.table) + 1 ≤ min lent.room 32768
-
--- a limit, a quantity and a term within their bounds
-abbrev pub Bounded : ℕ → ℕ → Term → Type 0
-Bounded p q t = (breaks_price p ≡ false) × ((breaks_quantity q ≡ false) × (breaks_least t q ≡ false))
 
 -- the records that may be read: those used, as far as the tape goes
 abbrev pub readable : Board → List Trade → ℕ

@@ -1,4 +1,5 @@
 // The checks: which fault turns a call down, and what is known where none does.
+// `order`, `stamp` and `usable` stand in each check that knows them: they tie its answer to the board and to what is lent, so no type of one of the three can bear them.
 // Where a contract has `no_lent` or `[]` for what is lent or the rows, the fault is the same for all of them: no condition of the call reads it.
 ghost use Rattle.std.specs.Prelude.{◌≡◌, ◌<◌, ◌≤◌, false, [], ◌∷◌, IfOk, Some, Ok, Err, OnOk, if◌then◌else◌};
 ghost use Rattle.std.specs.Result.{result_err};

@@ -1,27 +1,24 @@
-// The conditions behind the refusals that are no plain comparison, one function each.
+// The conditions behind the refusals that are no plain comparison, and the limit of an entry, one function each.
 ghost use Rattle.std.specs.Prelude.{◌≡◌, Some};
 ghost use Rattle.rules.specs.Ledger.{limit_for, restamps};
 ghost use Rattle.rules.specs.Refusals.{limit_breaks, known_issue, is_open, too_few, wrong_to_enter};
 
-use opening::trades::ISSUES;
 use orders::bounds::price_breaks;
 use orders::order::{Entry, Life, Order, Price, Term};
 use register::contract::Register;
+use register::holding::LAST_ISSUE;
 use rules::outcome::Phase;
 
 pub(crate) fn limit_breaks(price: Price) -> bool
     ensures { result ≡ limit_breaks price }
 {
-    match price {
-        Price::Limit(p) => price_breaks(p),
-        Price::Market => false,
-    }
+    matches!(price, Price::Limit(p) if price_breaks(p))
 }
 
 pub(crate) fn is_known(issue: u64) -> bool
     ensures { result ≡ known_issue issue }
 {
-    (1..=ISSUES as u64).contains(&issue)
+    (1..=LAST_ISSUE).contains(&issue)
 }
 
 // An amendment to this price and term gives the order a new stamp.
@@ -31,7 +28,7 @@ pub fn restamps(o: Order, price: u64, term: Term) -> bool
     o.price != price || o.term != term
 }
 
-// The limit of an entry: its own, or the price of the best order opposite.
+// The limit of an entry: its own, or the price of the best order opposite. No Option: with none opposite, where it is 0, a market order is refused before.
 pub fn limit_for(price: Price, best: Option<Order>) -> u64
     ensures { result ≡ limit_for price best }
 {

@@ -15,6 +15,7 @@ mod setup;
 // The most records of a tape that a market uses.
 pub const MOST_RECORDS: usize = 32_768;
 
+// The previous closes are an array: no heap is used.
 // The order table, the phase, the previous closes of the issues from 1 up, and how many records of the tape are used.
 #[derive(Drop)]
 pub struct Board {

@@ -1,13 +1,13 @@
 // What the board answers. No question changes anything, and any number may be asked about.
-ghost use Rattle.std.specs.Prelude.{◌≡◌, ◌+◌, ◌<◌, ◌≤◌, List, length, take, drop, MatchOption};
+ghost use Rattle.std.specs.Prelude.{◌≡◌, ◌+◌, ◌-◌, ◌<◌, ◌≤◌, List, length, take, drop, Some, None, MatchOption, slice_index, if◌then◌else◌};
 ghost use Rattle.register.specs.declared.holding.Row.{Row};
 ghost use Rattle.orders.specs.declared.order.Trade.{Trade};
 ghost use Rattle.orders.specs.Book.{find};
+ghost use Rattle.rules.specs.Refusals.{known_issue};
 ghost use Rattle.rules.specs.Market.{opening_question};
 ghost use Rattle.board.specs.Boards.{ledger_of, state_of, readable};
 
 use super::Board;
-use crate::conditions::is_known;
 use opening::price;
 use orders::order::{Order, Trade};
 use rules::outcome::Phase;
@@ -20,14 +20,22 @@ impl Board {
         self.table.order(number)
     }
 
+    // The previous close of an issue, if there is such an issue.
+    fn close(&self, issue: u64) -> Option<u64>
+        ensures { result ≡ (if known_issue issue then Some (slice_index self.now.closes (issue - 1)) else None) }
+    {
+        let place = issue.checked_sub(1)? as usize;
+        self.closes.get(place).copied()
+    }
+
     // The price at which an issue would open.
     pub fn opening_price(&self, issue: u64) -> Option<u64>
         ensures { (rows : List Row) (tape : List Trade) → result ≡ opening_question issue (state_of self.now rows tape) }
     {
-        if self.phase != Phase::PreOpen || !is_known(issue) {
+        if self.phase != Phase::PreOpen {
             return None;
         }
-        price::opening_price(&self.table, issue, self.closes[(issue - 1) as usize])
+        price::opening_price(&self.table, issue, self.close(issue)?)
     }
 
     pub fn phase(&self) -> Phase

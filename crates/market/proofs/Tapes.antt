@@ -5,11 +5,10 @@ use Rattle.std.proofs.lemmas.List.{drop-drop}
 use borrow.Rule.Slice.PartMut.{mid_of, put_mid}
 use Rattle.register.specs.declared.holding.Row.{Row}
 use Rattle.orders.specs.declared.order.Trade.{Trade}
-use Rattle.orders.specs.Book.{after}
 use Rattle.orders.specs.Tape.{recorded}
 use Rattle.orders.proofs.Tapes.{drop_recorded, recorded_part}
 use Rattle.book.specs.declared.table.Table.{Table}
-use Rattle.book.specs.Table.{book_of}
+use Rattle.book.specs.Table.{book_of, Made}
 use Rattle.rules.specs.Market.{all_settled}
 use Rattle.market.specs.declared.Market.{Market}
 use Rattle.market.specs.Calls.{needed, Grown, Lasts, Executed}
@@ -33,14 +32,17 @@ grown_more u v v' w a b c g e h = (omega arith, h.1 ∙ dropped v w b a (omega a
 
 module _ {R S : Type 0} (rest : R → S) (m n : Market R) where
   -- trades are made on the table, recorded in the free part of the tape and settled
-  pub executed_by : (rows : R → List Row) (k : ℕ) (ts t part : List Trade) (s s' : List ℕ) (table : Table) → needed m.board ≤ min (length t) 32768 → k ≡ length ts →
-      k + length (book_of table) ≤ length (book_of m.board.table) → part ≡ recorded 0 ts (mid_of m.board.used (length t - m.board.used) t) → s' ≡ s →
-      book_of table ≡ after ts (book_of m.board.table) → table.given ≡ m.board.table.given →
+  pub executed_by : (rows : R → List Row) (k : ℕ) (ts t part : List Trade) (s s' : List ℕ) (table : Table) → needed m.board ≤ min (length t) 32768 → Made ts k m.board.table table (mid_of m.board.used (length t - m.board.used) t) part → s' ≡ s →
       n.board.table ≡ table → n.board.phase ≡ m.board.phase → n.board.closes ≡ m.board.closes → n.board.used ≡ m.board.used + k →
       rows n.register.now ≡ all_settled (take k (drop m.board.used (put_mid m.board.used (length t - m.board.used) t part))) (rows m.register.now) →
       rest n.register.now ≡ rest m.register.now → n.register.ghost_name ≡ m.register.ghost_name →
       Executed rows rest ts k m n t (put_mid m.board.used (length t - m.board.used) t part) s s'
-  executed_by rows k ts t part s s' table room count few e same book given tb phase closes used settled register named =
+  executed_by rows k ts t part s s' table room made same tb phase closes used settled register named =
+      let count = made.count in
+      let few = made.few in
+      let e = made.tape in
+      let book = made.book in
+      let given = made.given in
       let live = ap (λ x. length (book_of x)) tb in
       record {
         state = grind (arith, common_steps);

@@ -1,6 +1,6 @@
 // The calls on orders. Each is lent a tape and a strip, and may trade.
-// The two stay two parameters: a struct of them would add to each contract whose tape and whose strip come back.
-// Where a call needs the table, the board has a name of its own: no rule covers a method on a field of a field behind `self`, which holds a reference.
+// Tape and strip stay two parameters: a struct that lends both would owe a clause for each, that the same memory comes back.
+// `let board = &mut self.board` stands before a call on the table, since a call on a field of a field of `self` gets no proof here.
 ghost use Rattle.std.specs.Prelude.{◌≡◌, true, is_ok};
 ghost use Rattle.orders.specs.declared.order.Call.TheVariants.{Enter, Amend, Cancel, Suspend, Resume};
 ghost use Rattle.orders.specs.Strip.{clean};
@@ -36,7 +36,7 @@ impl<'r, R: Register> Market<'r, R> {
         Ok(self.attempt(tape, strip, number, entry.issue, entry.life))
     }
 
-    // Sets quantity left, price and term of a live order.
+    // Sets quantity left, price and term of a live order: parameters, as the rules' call names them, since checks and table take them one by one.
     pub fn amend(
         &mut self,
         tape: &mut [Trade],

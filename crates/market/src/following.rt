@@ -9,12 +9,12 @@ ghost use Rattle.market.specs.Calls.{needed, Ready, Counted, Lasts};
 use super::Market;
 use crate::settling::end_order;
 use board::Board;
-use opening::trades::ISSUES;
 use orders::order::{Life, Trade};
 use register::contract::Register;
+use register::holding::LAST_ISSUE;
 use rules::outcome::{Outcome, Phase};
 
-// Ends what is left of a now order. Not a method of the market, as in `settling`: so the register is known to be the same one, with no clause that says it.
+// Ends what is left of a now order. A function over register and board, and no method of the market: a method would owe a clause that the register is the same one.
 fn end_if_now<R: Register>(register: &mut R, board: &mut Board, life: Life, number: u64)
     ensures state { (tape : List Trade) → state_of board.new (R.rows register.new) tape ≡ if_now life number (state_of board.old (R.rows register.old) tape) }
     ensures used { board.new.used ≡ board.old.used }
@@ -108,7 +108,7 @@ impl<'r, R: Register> Market<'r, R> {
             trades: made as u64,
             ..Outcome::of(0)
         };
-        for issue in 1..=ISSUES as u64 {
+        for issue in 1..=LAST_ISSUE {
             outcome = self.by_rounds(tape, strip, issue, outcome);
         }
         outcome

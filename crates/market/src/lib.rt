@@ -13,7 +13,7 @@ mod settling;
 pub mod setup;
 mod trading;
 
-// What no other hand may touch meanwhile: the register. And the market's own records.
+// The register, which nothing else can touch meanwhile, and the market's own records.
 #[derive(Drop)]
 pub struct Market<'r, R: Register> {
     register: &'r mut R,

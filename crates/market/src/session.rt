@@ -17,7 +17,7 @@ use rules::fault::MarketFault;
 use rules::outcome::{Outcome, Phase};
 
 impl<'r, R: Register> Market<'r, R> {
-    // Adds to the free shares of a pair.
+    // Adds to the free shares of a pair. Not one function with `withdraw` over a closure: of what a closure changes nothing is known after it.
     pub fn deposit(
         &mut self,
         account: u64,

@@ -1,5 +1,6 @@
 // What the market asks of the register: no call of the market has any of this refused.
 // Release, cover and settle stay apart: each names its own call, and a closure in its place would owe all that the call leaves of the register.
+// `stays` compares two states of the register, so it is a clause of each function and no invariant.
 // Functions over the register, or the register and the table, and not methods of the market: so the rest of the market is known to stay as it is.
 ghost use Rattle.std.specs.Prelude.{◌≡◌, ◌≤◌, [], length};
 ghost use Rattle.orders.specs.Book.{find, without};

@@ -16,7 +16,7 @@ mod tests {
 
     // 0 where the call was done, else the number of its refusal.
     fn code(r: Result<Outcome, MarketFault>) -> u64 {
-        r.map_or_else(|fault| fault.number(), |_| 0)
+        r.err().map_or(0, MarketFault::number)
     }
 
     // An entry of account 1 in issue 1, at a limit and for the day.

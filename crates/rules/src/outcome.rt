@@ -8,7 +8,7 @@ pub enum Phase {
     Closed,
 }
 
-// The number of the order that the call names, or 0; how many trades it made; how many rounds it took.
+// The number of the order that the call names, or 0, as the rules answer it; how many trades it made; how many rounds it took.
 #[derive(Clone, Copy, PartialEq, Eq, Debug)]
 pub struct Outcome {
     pub number: u64,

@@ -2,14 +2,14 @@
 ghost use Rattle.std.specs.Prelude.{◌≡◌, ◌<◌, true, false, ◌&&◌, [], ◌∷◌, length, IfOk, Some, OnOk};
 ghost use Rattle.std.specs.Result.{result_err};
 ghost use Rattle.orders.specs.declared.order.Call.TheVariants.{Enter, Amend};
-ghost use Rattle.orders.specs.Orders.{breaks_price, breaks_quantity, breaks_least};
+ghost use Rattle.orders.specs.Orders.{breaks_price, breaks_quantity, breaks_least, Bounded};
 ghost use Rattle.orders.specs.Book.{find, best_opposite};
 ghost use Rattle.rules.specs.Ledger.{limit_for, restamps};
 ghost use Rattle.register.specs.declared.fault.RegisterFault.TheVariants.{ShortFree};
 ghost use Rattle.rules.specs.declared.fault.MarketFault.TheVariants.{InRegister};
 ghost use Rattle.rules.specs.Refusals.{first_refusal, limit_breaks, is_sell, too_few, terms_refusal, entry_refusal};
 ghost use Rattle.book.specs.Table.{book_of};
-ghost use Rattle.board.specs.Boards.{ledger_of, refused, Usable, Bounded};
+ghost use Rattle.board.specs.Boards.{ledger_of, refused, Usable};
 
 use super::refuse_if;
 use crate::Board;

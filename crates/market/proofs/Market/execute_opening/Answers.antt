@@ -7,4 +7,4 @@ returns g c = λ strip.
     let e = c.open_all-made.ensures in
     let s = c.settle_next.ensures in
     executed_by g.R.Register.rest c.args.self.now c.settle_next.new.self g.R.Register.rows c.open_all-made.result _ c.args.tape.now c.open_all-made.new.free strip strip c.open_all-made.new.table
-    c.requires e.count e.live e.tape refl e.book e.given s.board.0 s.board.1 s.board.2 s.used s.rows s.register s.named
+    c.requires e.made refl s.board.0 s.board.1 s.board.2 s.used s.rows s.register s.named
