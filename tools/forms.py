@@ -79,7 +79,7 @@ def enums(sources):
 def underived(sources):
     """Own types that derive Clone but no equality."""
     for s in sources:
-        for found in re.finditer(r"#\[derive\(([^)]*)\)\]\n(pub )?(struct|enum) (\w+)", s.code):
+        for found in re.finditer(r"#\[derive\(([^)]*)\)\]\n(pub(?:\(\w+\))? )?(struct|enum) (\w+)", s.code):
             if "Clone" in found.group(1) and "PartialEq" not in found.group(1):
                 yield f"{s.name}:{s.line(found.start())}: {found.group(3)} {found.group(4)}"
 
