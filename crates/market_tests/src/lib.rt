@@ -68,4 +68,22 @@ mod tests {
         assert_eq!(rt; code(m.deposit(1, 1, 1)), 2);
         assert_eq!(rt; code(m.withdraw(1, 1, 0)), 2);
     }
+
+    #[test]
+    fn phases_on_grid(rt: HostRuntime) {
+        let mut grid = Grid::new();
+        phases(&rt, &mut grid);
+    }
+
+    #[test]
+    fn phases_on_rows(rt: HostRuntime) {
+        let mut rows = [Row {
+            account: 1,
+            issue: 1,
+            free: 5,
+            held: 0,
+        }];
+        let mut register = RowRegister::new(&mut rows);
+        phases(&rt, &mut register);
+    }
 }
