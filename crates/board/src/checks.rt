@@ -1,7 +1,7 @@
 // The checks: which fault turns a call down, and what is known where none does.
 // `order`, `stamp` and `usable` stand in each check that knows them: they tie its answer to the board and to what is lent, so no type of one of the three can bear them.
 // Where a contract has `no_lent` or `[]` for what is lent or the rows, the fault is the same for all of them: no condition of the call reads it.
-ghost use Rattle.std.specs.Prelude.{◌≡◌, ◌<◌, ◌≤◌, false, [], ◌∷◌, IfOk, Some, Ok, Err, OnOk, if◌then◌else◌};
+ghost use Rattle.std.specs.Prelude.{◌≡◌, ◌<◌, ◌≤◌, [], ◌∷◌, IfOk, Some, Ok, Err, OnOk, if◌then◌else◌};
 ghost use Rattle.std.specs.Result.{result_err};
 ghost use Rattle.orders.specs.declared.order.Call.TheVariants.{Cancel, Suspend, Resume, Reference, Open, Close};
 ghost use Rattle.orders.specs.Book.{find};
@@ -46,11 +46,12 @@ impl Board {
         room.min(MOST_RECORDS).saturating_sub(self.used) < self.table.live() + 1
     }
 
-    // What a call that may trade is lent: the strip must be clean, and the tape must have room.
-    pub fn check_lent(&self, lent: Lent) -> Result<(), MarketFault>
-        ensures refusal { result_err result ≡ lent_refusal false lent (ledger_of self.now) }
+    // What a call that may trade is lent: the phase must not be wrong, which the caller says, the strip must be clean, and the tape must have room.
+    pub fn check_lent(&self, wrong: bool, lent: Lent) -> Result<(), MarketFault>
+        ensures refusal { result_err result ≡ lent_refusal wrong lent (ledger_of self.now) }
         ensures usable { OnOk result (Usable self.now lent) }
     {
+        refuse_if(wrong, MarketFault::WrongPhase)?;
         refuse_if(!lent.clean, MarketFault::UncleanStrip)?;
         refuse_if(self.is_short(lent.room), MarketFault::ShortTape)
     }
@@ -68,8 +69,7 @@ impl Board {
         ensures order { IfOk result (λ o. find number (book_of self.now.table) ≡ Some o) }
         ensures usable { OnOk result (Usable self.now lent) }
     {
-        refuse_if(self.phase == Phase::Closed, MarketFault::WrongPhase)?;
-        self.check_lent(lent)?;
+        self.check_lent(self.phase == Phase::Closed, lent)?;
         refuse_if(self.table.never_given(number), MarketFault::NeverGiven)?;
         self.table.order(number).ok_or(MarketFault::OrderEnded)
     }
@@ -109,8 +109,7 @@ impl Board {
         ensures refusal { result_err result ≡ refused self.now lent [] Open }
         ensures usable { OnOk result (Usable self.now lent) }
     {
-        refuse_if(self.phase != Phase::PreOpen, MarketFault::WrongPhase)?;
-        self.check_lent(lent)
+        self.check_lent(self.phase != Phase::PreOpen, lent)
     }
 
     pub fn check_close(&self) -> Result<(), MarketFault>

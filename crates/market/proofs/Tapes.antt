@@ -27,7 +27,7 @@ dropped m n x y h e =
     let f : (z : List Trade) → drop n z ≡ drop (n - m) (drop m z) = λ z. ap (λ (k : ℕ). drop k z) (sym d) ∙ sym (drop-drop (n - m) m z) in
     f x ∙ (ap (drop (n - m)) e ∙ sym (f y))
 
-grown_more : (u v v' w : ℕ) (a b c : List Trade) → Grown u a v b → v' ≡ v → Grown v' b w c → Grown u a w c
+pub grown_more : (u v v' w : ℕ) (a b c : List Trade) → Grown u a v b → v' ≡ v → Grown v' b w c → Grown u a w c
 grown_more u v v' w a b c g e h = (omega arith, h.1 ∙ dropped v w b a (omega arith) g.1)
 
 module _ {R S : Type 0} (rest : R → S) (m n : Market R) where

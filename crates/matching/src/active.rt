@@ -5,7 +5,8 @@ ghost use Rattle.book.specs.Table.{book_of};
 ghost use Rattle.matching.specs.Rounds.{best_plain, later, crossing, first_ready, active_in};
 ghost use Rattle.matching.specs.Listing.{readies};
 
-use crate::listing::list;
+use crate::listing::{Listing, list};
+use arrayvec::ArrayVec;
 use book::table::Table;
 use orders::order::{Order, Side};
 
@@ -36,7 +37,14 @@ fn active_special(table: &Table, strip: &mut [u8], issue: u64) -> Option<Order>
     ensures order { result ≡ first_ready (readies issue (book_of table.now)) }
     ensures strip { strip.new ≡ strip.old }
 {
-    list(table, strip, issue).ready_order()
+    let mut rows = ArrayVec::new();
+    list(table, strip, issue, &mut rows);
+    Listing {
+        table,
+        issue,
+        rows: &rows,
+    }
+    .ready_order()
 }
 
 // The order that a round on the issue makes active, if there is one. The market lends a clean strip.

@@ -1,5 +1,5 @@
 // An attempt: its trades on the tape and on the table.
-ghost use Rattle.std.specs.Prelude.{◌≡◌, ◌≤◌, true, length, Some};
+ghost use Rattle.std.specs.Prelude.{◌≡◌, ◌≤◌, [], true, length, Some};
 ghost use Rattle.orders.specs.Book.{find, after};
 ghost use Rattle.orders.specs.Strip.{clean};
 ghost use Rattle.book.specs.Table.{book_of, Made};
@@ -23,13 +23,16 @@ fn make(table: &mut Table, trades: &[Trade])
     }
 }
 
-// The trades of the attempt of a.
-fn planned(table: &Table, strip: &mut [u8], a: &Order) -> ArrayVec<Trade, PLACES>
-    requires { clean strip.old ≡ true }
-    ensures trades { result.items ≡ trades_by a.now (book_of table.now) }
+// Adds the trades of the attempt of a, where there are none yet.
+fn planned(table: &Table, strip: &mut [u8], a: &Order, trades: &mut ArrayVec<Trade, PLACES>)
+    requires strip { clean strip.old ≡ true }
+    requires empty { trades.old.items ≡ [] }
+    ensures trades { trades.new.items ≡ trades_by a.now (book_of table.now) }
     ensures strip { strip.new ≡ strip.old }
 {
-    plan(a, &list(table, strip, a.issue).rows)
+    let mut rows = ArrayVec::new();
+    list(table, strip, a.issue, &mut rows);
+    plan(a, &rows, trades);
 }
 
 // Writes the trades at the start of the tape's free part.
@@ -48,7 +51,8 @@ fn attempt_live(table: &mut Table, strip: &mut [u8], free: &mut [Trade], a: &Ord
     ensures made { Made (trades_by a.now (book_of table.old)) result table.old table.new free.old free.new }
     ensures strip { strip.new ≡ strip.old }
 {
-    let trades = planned(table, strip, a);
+    let mut trades = ArrayVec::new();
+    planned(table, strip, a, &mut trades);
     record(free, &trades);
     make(table, &trades);
     trades.len()

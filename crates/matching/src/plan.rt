@@ -1,5 +1,5 @@
 // The trades of an attempt, planned before any of them is made.
-ghost use Rattle.std.specs.Prelude.{◌≡◌, ◌+◌, ◌≤◌, ◌++◌, length, filter};
+ghost use Rattle.std.specs.Prelude.{◌≡◌, ◌+◌, ◌≤◌, ◌++◌, [], length, filter};
 ghost use Rattle.matching.specs.Walk.{walk};
 ghost use Rattle.matching.specs.Attempt.{trade_of, trades_of};
 ghost use Rattle.matching.specs.Listing.{orders_in, meets, attempt_over};
@@ -54,22 +54,21 @@ fn walk_on(
     }
 }
 
-// The trades of the active order's attempt over the listed orders.
-pub fn plan(a: &Order, rows: &[Listed]) -> ArrayVec<Trade, PLACES>
-    requires { length rows.now ≤ 256 }
-    ensures { result.items ≡ attempt_over a.now rows.now }
+// Adds the trades of the active order's attempt over the listed orders, where there are none yet. The list is lent, so that it is not copied.
+pub fn plan(a: &Order, rows: &[Listed], trades: &mut ArrayVec<Trade, PLACES>)
+    requires room { length rows.now ≤ 256 }
+    requires empty { trades.old.items ≡ [] }
+    ensures { trades.new.items ≡ attempt_over a.now rows.now }
 {
-    let mut trades = ArrayVec::new();
     match a.term {
         Term::All if !fills(a, rows) => {}
-        Term::Plain | Term::All => walk_on(a, rows, None, a.left, &mut trades),
+        Term::Plain | Term::All => walk_on(a, rows, None, a.left, trades),
         Term::Least(m) => {
             if let Some(o) = first_to_give(a, m, rows) {
                 let q = offer(&o, a.left);
                 trades.push(trade(a, &o, q));
-                walk_on(a, rows, Some(o.number), a.left - q, &mut trades);
+                walk_on(a, rows, Some(o.number), a.left - q, trades);
             }
         }
     }
-    trades
 }

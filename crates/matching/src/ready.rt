@@ -41,20 +41,20 @@ fn is_special_in(o: &Order, issue: u64) -> bool
 
 impl Listing<'_> {
     fn is_ready(&self, o: &Order) -> bool
-        ensures { result ≡ ready_over self.now.issue self.now.rows.items o.now }
+        ensures { result ≡ ready_over self.now.issue self.now.rows.now o.now }
     {
-        is_special_in(o, self.issue) && would_trade(o, &self.rows)
+        is_special_in(o, self.issue) && would_trade(o, self.rows)
     }
 
     fn is_ready_on(&self, o: &Order, side: Side) -> bool
-        ensures { result ≡ ready_on self.now.issue side self.now.rows.items o.now }
+        ensures { result ≡ ready_on self.now.issue side self.now.rows.now o.now }
     {
         o.side == side && self.is_ready(o)
     }
 
     // The place of the first ready order on the side, by rank. The loop leaves by `break` with the place, a form that docs/DECISIONS.md names.
     fn ready_place(&self, side: Side) -> Option<usize>
-        ensures { result ≡ option_map (λ x. x.place) (first_row (ready_on self.now.issue side self.now.rows.items) self.now.rows.items) }
+        ensures { result ≡ option_map (λ x. x.place) (first_row (ready_on self.now.issue side self.now.rows.now) self.now.rows.now) }
     {
         let mut rest = self.rows.iter();
         loop {
@@ -76,7 +76,7 @@ impl Listing<'_> {
 
     // The order of a row, to be ranked by its stamp, if it is ready.
     fn ready_row(&self, k: usize) -> Option<Stamped>
-        ensures { result ≡ stamped (ready_at self.now.issue self.now.rows.items k) }
+        ensures { result ≡ stamped (ready_at self.now.issue self.now.rows.now k) }
     {
         let order = self.rows.get(k)?.order;
         self.is_ready(&order).then_some(Stamped { order })

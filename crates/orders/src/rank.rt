@@ -21,17 +21,16 @@ impl Ranked for Order {
 
     ghost ranks = { ahead_ranks };
 
-    // Buys before sells, on one side the better price, then plain before special, then the earlier stamp.
+    // Buys before sells, on one side the better price, then plain before special, then the earlier stamp. Each is asked only where those before it are equal.
     fn precedes(&self, other: &Order) -> bool {
-        let by_price = match self.side {
-            Side::Buy => other.price.cmp(&self.price),
-            Side::Sell => self.price.cmp(&other.price),
-        };
         self.side
             .cmp(&other.side)
-            .then(by_price)
-            .then(self.term.is_special().cmp(&other.term.is_special()))
-            .then(self.stamp.cmp(&other.stamp))
+            .then_with(|| match self.side {
+                Side::Buy => other.price.cmp(&self.price),
+                Side::Sell => self.price.cmp(&other.price),
+            })
+            .then_with(|| self.term.is_special().cmp(&other.term.is_special()))
+            .then_with(|| self.stamp.cmp(&other.stamp))
             .is_lt()
     }
 }

@@ -1,5 +1,5 @@
 // A guard over the caller's strip: when it goes, every byte of the strip is zero.
-ghost use Rattle.std.specs.Prelude.{◌≡◌, ◌<◌, ◌==◌, length, slice_set};
+ghost use Rattle.std.specs.Prelude.{◌≡◌, ◌<◌, ◌==◌, length, fold, max, slice_set};
 ghost use Rattle.std.specs.List.{list_all};
 ghost use Rattle.orders.specs.Strip.{Zeros, clean};
 
@@ -7,10 +7,17 @@ ghost use Rattle.orders.specs.Strip.{Zeros, clean};
 // Clauses say 256 in digits, so that they bind this number too.
 pub const PLACES: usize = 256;
 
+// The greatest byte. A fold goes through all of them, and so many at once: a call asks for it before it knows whether its phase is right.
+fn greatest(strip: &[u8]) -> u8
+    ensures { result ≡ fold (λ m x. max m x) 0 strip.now }
+{
+    strip.iter().fold(0, |m, b| m.max(*b))
+}
+
 fn are_zeros(strip: &[u8]) -> bool
     ensures { result ≡ list_all (λ x. x == 0) strip.now }
 {
-    strip.iter().all(|b| *b == 0)
+    greatest(strip) == 0
 }
 
 // The strip is 256 zero bytes.

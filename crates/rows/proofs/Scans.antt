@@ -35,7 +35,7 @@ neighbours xs false (k, l, h) = sym (one xs k l h)
 
 -- ---- places by search
 
-lex_at : (xs : List Row) (j k : ℕ) → ascending xs ≡ true → j < k → k < length xs → Lex (get_or xs j no_row) (get_or xs k no_row)
+pub lex_at : (xs : List Row) (j k : ℕ) → ascending xs ≡ true → j < k → k < length xs → Lex (get_or xs j no_row) (get_or xs k no_row)
 lex_at [] j k h l m = absurd (omega arith)
 lex_at (x ∷ xs) zero zero h l m = absurd (omega arith)
 lex_at (x ∷ xs) zero (suc k) h l m = lex_head x xs k h (omega arith)
@@ -70,7 +70,7 @@ searched xs a i h (Err at) l parted =
 
 -- ---- a register over rows: b is its flag
 
-none_lawful : lawful [] ≡ true
+pub none_lawful : lawful [] ≡ true
 unfolding lawful issues
 none_lawful = refl
 

@@ -1,12 +1,14 @@
 // Looking through a slice of rows.
 ghost use Rattle.std.specs.Prelude.{◌≡◌, ◌+◌, true, cond, None, Some, MatchOption, nat_le};
 ghost use Rattle.std.specs.List.{list_all};
+ghost use Rattle.std.specs.Ordering.{nat_cmp, ordering_then};
 ghost use Rattle.rows.specs.Checks.{total_if_within};
 ghost use Rattle.register.specs.Places.{Placed};
 ghost use Rattle.register.specs.Rules.{limit, ascending, in_range, capped, precedes, lawful, balance_of, total_of};
 
 use register::holding::{LAST_ACCOUNT, LAST_ISSUE, Row};
 use register::movers::LIMIT;
+use std::cmp::Ordering;
 
 // r stands before s: by account, then issue.
 fn stands_before(r: &Row, s: &Row) -> bool
@@ -69,11 +71,21 @@ pub(crate) fn are_capped(rows: &[Row]) -> bool
     (1..LAST_ISSUE + 1).all(|issue| is_capped(rows, issue))
 }
 
+// On which side of the pair the row stands: by account, then issue. Tested first for equality: a search by a key that is a pair takes twice the instructions.
+fn side(row: &Row, account: u64, issue: u64) -> Ordering
+    ensures { result ≡ ordering_then (nat_cmp row.now.account account) (nat_cmp row.now.issue issue) }
+{
+    if row.account == account {
+        row.issue.cmp(&issue)
+    } else {
+        row.account.cmp(&account)
+    }
+}
+
 // The place of a pair.
 pub(crate) fn find(rows: &[Row], account: u64, issue: u64) -> Option<usize>
     requires { lawful rows.now ≡ true }
     ensures { MatchOption result (balance_of account issue rows.now ≡ None) (λ k. Placed account issue rows.now k) }
 {
-    rows.binary_search_by_key(&(account, issue), |row| (row.account, row.issue))
-        .ok()
+    rows.binary_search_by(|row| side(row, account, issue)).ok()
 }

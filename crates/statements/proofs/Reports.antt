@@ -5,7 +5,7 @@ use Rattle.std.proofs.lemmas.Bool.{cond-true, cond-false, cases_Bool}
 use Rattle.register.specs.declared.holding.Row.{Row}
 use Rattle.text.specs.Lines.{lines_of}
 use Rattle.statements.specs.Statement.{unread_line}
-use Rattle.statements.specs.Report.{Reading, ReadAs, all_read, rows_in, unread_lines, statement_of, Reported, Line}
+use Rattle.statements.specs.Report.{Reading, Means, ReadAs, all_read, rows_in, unread_lines, statement_of, Reported, Line}
 
 rows_join : (xs ys : List Reading) → rows_in (xs ++ ys) ≡ rows_in xs ++ rows_in ys
 rows_join [] ys = refl
@@ -38,17 +38,17 @@ pub record Sofar (input : List ℕ) (rows : List Row) (refused : List ℕ) (take
   pub refused_are : refused ≡ unread_lines 1 got
   pub counted : taken ≡ length got
 
-pub one_line : {input : List ℕ} {rows : List Row} {refused : List ℕ} {taken : ℕ} {rest : List ℕ} (line after : List ℕ) (i taken' : ℕ) {rows' : List Row} {refused' : List ℕ} → Sofar input rows refused taken rest
-    → lines_of rest ≡ line ∷ lines_of after → i ≡ taken → taken' ≡ taken + 1 → Line (i + 1) line rows refused rows' refused' → Sofar input rows' refused' taken' after
-one_line {input} {rows} {refused} {taken} {rest} l after i taken' {rows'} {refused'} s cut at next line = record {
+pub one_line : {input : List ℕ} {rows : List Row} {refused : List ℕ} {taken : ℕ} {rest : List ℕ} (line after : List ℕ) {number taken' : ℕ} {given : List ℕ} {rows' : List Row} {refused' : List ℕ} → Sofar input rows refused taken rest
+    → lines_of rest ≡ line ∷ lines_of after → number ≡ taken + 1 → given ≡ line → taken' ≡ taken + 1 → Line number given rows refused rows' refused' → Sofar input rows' refused' taken' after
+one_line {input} {rows} {refused} {taken} {rest} l after {number} {taken'} {given} {rows'} {refused'} s cut at same next line = record {
   got = s.got ++ (line.reading ∷ []);
   joins = λ more m.
       subst (ReadAs (lines_of input)) (sym (append_assoc s.got (line.reading ∷ []) more))
-      (s.joins (line.reading ∷ more) (subst (λ ls. ReadAs ls (line.reading ∷ more)) (sym cut) (line.means, m)));
+      (s.joins (line.reading ∷ more) (subst (λ ls. ReadAs ls (line.reading ∷ more)) (sym cut) (subst (λ g. Means g line.reading) same line.means, m)));
   rows_are = line.rows_after ∙ ap (λ l. l ++ rows_in (line.reading ∷ [])) s.rows_are ∙ sym (rows_join s.got (line.reading ∷ []));
   refused_are =
       line.refused_after
-      ∙ ap (λ l. l ++ unread_lines (i + 1) (line.reading ∷ [])) s.refused_are
+      ∙ ap (λ l. l ++ unread_lines number (line.reading ∷ [])) s.refused_are
       ∙ ap (λ k. unread_lines 1 s.got ++ unread_lines k (line.reading ∷ [])) (let c = s.counted in omega arith)
       ∙ sym (unread_join 1 s.got (line.reading ∷ []));
   counted = let c = s.counted in simp length-append (omega arith);

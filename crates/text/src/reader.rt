@@ -1,5 +1,5 @@
 // A reader of one line, which knows the column at which the line stops being a form.
-ghost use Rattle.std.specs.Prelude.{◌≡◌, ℕ, ◌+◌, ◌^◌, ◌<◌, ◌≤◌, length, drop};
+ghost use Rattle.std.specs.Prelude.{◌≡◌, ℕ, ◌+◌, ◌^◌, ◌<◌, ◌≤◌, length, drop, OnErr};
 ghost use Rattle.std.specs.Str.Parse.{digits_value};
 ghost use Rattle.text.specs.Tokens.{Digits, TokenAt};
 ghost use Rattle.text.specs.Tree.{Gram, lit, lits, num, end_byte, Reads, Ends};
@@ -86,9 +86,10 @@ impl<'a> Reader<'a> {
         Ok(())
     }
 
-    // Passes a number and the byte that has to end it.
+    // Passes a number and the byte that has to end it. Where they don't stand here, the reader stays where it is, so that another end may be tried.
     pub fn number<F: Form>(&mut self, end: NumberEnd) -> Result<u64, Malformed>
-        ensures { (K : ℕ → Gram F.Value) → Reads F.spells (num (end_byte end) K) K self.old result self.new }
+        ensures reads { (K : ℕ → Gram F.Value) → Reads F.spells (num (end_byte end) K) K self.old result self.new }
+        ensures stays { OnErr result (self.new.at ≡ self.old.at) }
     {
         let Token::Number(ds) = self.peek() else {
             return Err(self.malformed(0));
@@ -99,8 +100,12 @@ impl<'a> Reader<'a> {
         if ds.len() > MAX_DIGITS {
             return Err(self.malformed(MAX_DIGITS));
         }
-        self.at += ds.len();
-        self.byte::<F>(u8::from(end))?;
+        let mut after = Reader {
+            line: self.line,
+            at: self.at + ds.len(),
+        };
+        after.byte::<F>(u8::from(end))?;
+        *self = after;
         Ok(digits_value(ds))
     }
 

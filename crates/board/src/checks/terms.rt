@@ -89,8 +89,7 @@ impl Board {
         ensures stamp { OnOk result (self.now.table.given.stamp < 1000000) }
         ensures usable { OnOk result (Usable self.now lent) }
     {
-        refuse_if(wrong_to_enter(self.phase, entry), MarketFault::WrongPhase)?;
-        self.check_lent(lent)?;
+        self.check_lent(wrong_to_enter(self.phase, entry), lent)?;
         refuse_if(
             !is_open(register, entry.account, entry.issue),
             RegisterFault::NotOpen.into(),

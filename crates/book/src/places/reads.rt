@@ -51,7 +51,10 @@ impl Places {
     fn taken(&self) -> usize
         ensures { result ≡ count_by is_some self.now.slots }
     {
-        self.slots.iter().filter(|slot| slot.is_some()).count()
+        self.slots
+            .iter()
+            .map(|slot| usize::from(slot.is_some()))
+            .sum()
     }
 
     // How many orders there are.

@@ -7,12 +7,12 @@ use Rattle.matching.proofs.Fairness.{attempt_few}
 
 pub record-requires : goal.record-requires
 record-requires c =
-    omega (arith, ap length c.planned-trades.ensures.trades, ap length c.deref.ensures.0, attempt_few c.args.table.now c.args.a.now c.requires.live, c.requires.room)
+    omega (arith, ap length c.planned.ensures.trades, ap length c.deref.ensures.0, attempt_few c.args.table.now c.args.a.now c.requires.live, c.requires.room)
 
 pub returns-clause-made : goal.returns-clause-made
 returns-clause-made c =
     let b = book_of c.args.table.now in
-    let planned = c.planned-trades.ensures.trades in
+    let planned = c.planned.ensures.trades in
     let books = c.make.ensures.book ∙ ap (λ ts. after ts b) (c.deref-2.ensures.0 ∙ planned) in
     let count = c.len.ensures.value ∙ ap length planned in
     record {

@@ -6,4 +6,4 @@ use Rattle.matching.proofs.attempt.planned.Goals as goal
 pub returns-clause-trades : goal.returns-clause-trades
 returns-clause-trades c =
     let a = c.args.a.now in
-    c.plan.ensures ∙ ap (attempt_over a) c.deref.ensures.0 ∙ attempt_listed c.args.table.now a c.list.result.rows.items (rw (c.list.ensures.table, c.list.ensures.issue) at c.list.result.lists)
+    c.plan.ensures ∙ ap (attempt_over a) c.deref.ensures.0 ∙ attempt_listed c.args.table.now a c.list.new.rows.items c.list.ensures.lists

@@ -1,5 +1,6 @@
-use Rattle.std.proofs.Common.{string_bytes, ap, ◌∙◌, rules}
+use Rattle.std.proofs.Common.{string_bytes, ap, ◌∙◌, arith, rules}
 use borrow.Author.Tests.{tests}
+use Rattle.std.proofs.lemmas.List.{take_all}
 use Rattle.std.proofs.lemmas.Result.{IfOk-weaker}
 use Rattle.text.proofs.Cuts.{first_cut, lines_on}
 use Rattle.statements.specs.Report.{statement_of}
@@ -10,7 +11,7 @@ pub loop-i-preserved : goal.loop-i-preserved
 loop-i-preserved c =
     let s = c.in-Some.ensures.steps in
     let first = first_cut _ _ _ _ _ _ s.0 (λ a r q k. search (rules, tests)) in
-    one_line c.in-Some.line.now _ c.in-Some.i _ c.loop-i.invariant (lines_on _ _ _ s.0.0 first) s.1 s.2 c.in_ok-take_line.ensures
+    one_line c.in-Some.line.now _ c.loop-i.invariant (lines_on _ _ _ s.0.0 first) (let at = s.1 in omega arith) (search (rules, take_all)) s.2 c.in_ok-take_line.ensures
 
 pub returns-then-not-is_empty : goal.returns-then-not-is_empty
 returns-then-not-is_empty c = let n = c.in-None.ensures.steps in some_refused c.loop-i.invariant n.0.0 (search rules)
