@@ -23,12 +23,14 @@ impl Ranked for Order {
 
     // Buys before sells, on one side the better price, then plain before special, then the earlier stamp. Each is asked only where those before it are equal.
     fn precedes(&self, other: &Order) -> bool {
-        self.side
-            .cmp(&other.side)
-            .then_with(|| match self.side {
-                Side::Buy => other.price.cmp(&self.price),
-                Side::Sell => self.price.cmp(&other.price),
-            })
+        if self.side != other.side {
+            return self.side < other.side;
+        }
+        let by_price = match self.side {
+            Side::Buy => other.price.cmp(&self.price),
+            Side::Sell => self.price.cmp(&other.price),
+        };
+        by_price
             .then_with(|| self.term.is_special().cmp(&other.term.is_special()))
             .then_with(|| self.stamp.cmp(&other.stamp))
             .is_lt()
