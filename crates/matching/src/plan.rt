@@ -54,7 +54,7 @@ fn walk_on(
     }
 }
 
-// Adds the trades of the active order's attempt over the listed orders, where there are none yet. The list is lent, so that it is not copied.
+// Adds the trades of the active order's attempt over the listed orders, where there are none yet. The trades are lent, so that they are not copied.
 pub fn plan(a: &Order, rows: &[Listed], trades: &mut ArrayVec<Trade, PLACES>)
     requires room { length rows.now ≤ 256 }
     requires empty { trades.old.items ≡ [] }

@@ -86,10 +86,10 @@ impl<'a> Reader<'a> {
         Ok(())
     }
 
-    // Passes a number and the byte that has to end it. Where they don't stand here, the reader stays where it is, so that another end may be tried.
+    // Passes a number and the byte that has to end it. Where they don't stand here, the reader stays as it is, so that another end may be tried.
     pub fn number<F: Form>(&mut self, end: NumberEnd) -> Result<u64, Malformed>
         ensures reads { (K : ℕ → Gram F.Value) → Reads F.spells (num (end_byte end) K) K self.old result self.new }
-        ensures stays { OnErr result (self.new.at ≡ self.old.at) }
+        ensures stays { OnErr result (self.new ≡ self.old) }
     {
         let Token::Number(ds) = self.peek() else {
             return Err(self.malformed(0));
