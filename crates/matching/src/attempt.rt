@@ -1,9 +1,9 @@
 // An attempt: its trades on the tape and on the table.
-ghost use Rattle.std.specs.Prelude.{◌≡◌, ◌≤◌, [], true, length, Some};
+ghost use Rattle.std.specs.Prelude.{◌≡◌, ◌≤◌, true, length, Some};
 ghost use Rattle.orders.specs.Book.{find, after};
 ghost use Rattle.orders.specs.Strip.{clean};
 ghost use Rattle.book.specs.Table.{book_of, Made};
-ghost use Rattle.orders.specs.Tape.{recorded};
+ghost use Rattle.orders.specs.Tape.{written};
 ghost use Rattle.matching.specs.Attempt.{attempt as trades_by, attempt_of};
 
 use crate::listing::list;
@@ -11,7 +11,6 @@ use crate::plan::plan;
 use arrayvec::ArrayVec;
 use book::table::Table;
 use orders::order::{Order, Trade};
-use orders::strip::PLACES;
 
 // Makes the trades one after another.
 fn make(table: &mut Table, trades: &[Trade])
@@ -23,24 +22,17 @@ fn make(table: &mut Table, trades: &[Trade])
     }
 }
 
-// Adds the trades of the attempt of a, where there are none yet.
-fn planned(table: &Table, strip: &mut [u8], a: &Order, trades: &mut ArrayVec<Trade, PLACES>)
+// Writes the trades of the attempt of a at the start of the tape's free part, and answers how many there are.
+fn planned(table: &Table, strip: &mut [u8], free: &mut [Trade], a: &Order) -> usize
     requires strip { clean strip.old ≡ true }
-    requires empty { trades.old.items ≡ [] }
-    ensures trades { trades.new.items ≡ trades_by a.now (book_of table.now) }
+    requires room { length (book_of table.now) ≤ length free.old }
+    ensures free { free.new ≡ written 0 (trades_by a.now (book_of table.now)) free.old }
+    ensures count { result ≡ length (trades_by a.now (book_of table.now)) }
     ensures strip { strip.new ≡ strip.old }
 {
     let mut rows = ArrayVec::new();
     list(table, strip, a.issue, &mut rows);
-    plan(a, &rows, trades);
-}
-
-// Writes the trades at the start of the tape's free part.
-fn record(free: &mut [Trade], trades: &[Trade])
-    requires { length trades.now ≤ length free.old }
-    ensures { free.new ≡ recorded 0 trades.now free.old }
-{
-    free[..trades.len()].copy_from_slice(trades);
+    plan(a, &rows, free)
 }
 
 // The attempt of a live working order: first its trades are written, then they are made.
@@ -51,11 +43,9 @@ fn attempt_live(table: &mut Table, strip: &mut [u8], free: &mut [Trade], a: &Ord
     ensures made { Made (trades_by a.now (book_of table.old)) result table.old table.new free.old free.new }
     ensures strip { strip.new ≡ strip.old }
 {
-    let mut trades = ArrayVec::new();
-    planned(table, strip, a, &mut trades);
-    record(free, &trades);
-    make(table, &trades);
-    trades.len()
+    let made = planned(table, strip, free, a);
+    make(table, &free[..made]);
+    made
 }
 
 // The attempt of the live order of this number, if it is working: its trades stand at the start of the tape's free part and are made. Answers how many there are.

@@ -1,14 +1,13 @@
-// The trades of an attempt, planned before any of them is made.
-ghost use Rattle.std.specs.Prelude.{◌≡◌, ◌+◌, ◌≤◌, ◌++◌, [], length, filter};
+// The trades of an attempt, written on the tape before any of them is made.
+ghost use Rattle.std.specs.Prelude.{◌≡◌, ◌+◌, ◌≤◌, length, filter};
+ghost use Rattle.orders.specs.Tape.{written};
 ghost use Rattle.matching.specs.Walk.{walk};
 ghost use Rattle.matching.specs.Attempt.{trade_of, trades_of};
 ghost use Rattle.matching.specs.Listing.{orders_in, meets, attempt_over};
 
 use crate::listed::Listed;
 use crate::walk::{does_face, fills, first_to_give, offer};
-use arrayvec::ArrayVec;
 use orders::order::{Order, Side, Term, Trade};
-use orders::strip::PLACES;
 
 // The trade of the active order a with the waiting order o, at the price of o.
 fn trade(a: &Order, o: &Order, quantity: u64) -> Trade
@@ -28,19 +27,22 @@ fn does_meet(skip: Option<u64>, a: &Order, o: &Order) -> bool
     does_face(a, o) && skip != Some(o.number)
 }
 
-// Adds the trades of a walk for `wanted`.
+// Writes the trades of a walk for `wanted` from place `from` on, and answers the place behind the last of them.
 fn walk_on(
     a: &Order,
     rows: &[Listed],
     skip: Option<u64>,
     wanted: u64,
-    trades: &mut ArrayVec<Trade, PLACES>,
-)
-    requires { length trades.old.items + length (filter (meets skip a.now) (orders_in rows.now)) ≤ 256 }
-    ensures { trades.new.items ≡ trades.old.items ++ trades_of a.now (walk wanted (filter (meets skip a.now) (orders_in rows.now))) }
+    free: &mut [Trade],
+    from: usize,
+) -> usize
+    requires { from + length (filter (meets skip a.now) (orders_in rows.now)) ≤ length free.old }
+    ensures free { free.new ≡ written from (trades_of a.now (walk wanted (filter (meets skip a.now) (orders_in rows.now)))) free.old }
+    ensures end { result ≡ from + length (trades_of a.now (walk wanted (filter (meets skip a.now) (orders_in rows.now)))) }
 {
-    // A loop: each trade is pushed, and of what a closure pushes nothing is known after it.
+    // A loop: each trade is written, and of what a closure writes nothing is known after it.
     let mut left = wanted;
+    let mut end = from;
     for o in rows
         .iter()
         .map(|row| row.order)
@@ -48,27 +50,31 @@ fn walk_on(
     {
         let q = offer(&o, left);
         if q > 0 {
-            trades.push(trade(a, &o, q));
+            free[end] = trade(a, &o, q);
+            end += 1;
             left -= q;
         }
     }
+    end
 }
 
-// Adds the trades of the active order's attempt over the listed orders, where there are none yet. The trades are lent, so that they are not copied.
-pub fn plan(a: &Order, rows: &[Listed], trades: &mut ArrayVec<Trade, PLACES>)
-    requires room { length rows.now ≤ 256 }
-    requires empty { trades.old.items ≡ [] }
-    ensures { trades.new.items ≡ attempt_over a.now rows.now }
+// Writes the trades of the active order's attempt over the listed orders at the start of the tape's free part, and answers how many there are.
+// Straight to the tape, and no list of their own: that took 14 KiB of stack besides the rows.
+pub fn plan(a: &Order, rows: &[Listed], free: &mut [Trade]) -> usize
+    requires { length rows.now ≤ length free.old }
+    ensures free { free.new ≡ written 0 (attempt_over a.now rows.now) free.old }
+    ensures count { result ≡ length (attempt_over a.now rows.now) }
 {
     match a.term {
-        Term::All if !fills(a, rows) => {}
-        Term::Plain | Term::All => walk_on(a, rows, None, a.left, trades),
-        Term::Least(m) => {
-            if let Some(o) = first_to_give(a, m, rows) {
+        Term::All if !fills(a, rows) => 0,
+        Term::Plain | Term::All => walk_on(a, rows, None, a.left, free, 0),
+        Term::Least(m) => match first_to_give(a, m, rows) {
+            Some(o) => {
                 let q = offer(&o, a.left);
-                trades.push(trade(a, &o, q));
-                walk_on(a, rows, Some(o.number), a.left - q, trades);
+                free[0] = trade(a, &o, q);
+                walk_on(a, rows, Some(o.number), a.left - q, free, 1)
             }
-        }
+            None => 0,
+        },
     }
 }

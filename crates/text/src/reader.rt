@@ -89,7 +89,7 @@ impl<'a> Reader<'a> {
     // Passes a number and the byte that has to end it. Where they don't stand here, the reader stays as it is, so that another end may be tried.
     pub fn number<F: Form>(&mut self, end: NumberEnd) -> Result<u64, Malformed>
         ensures reads { (K : ℕ → Gram F.Value) → Reads F.spells (num (end_byte end) K) K self.old result self.new }
-        ensures stays { OnErr result (self.new ≡ self.old) }
+        ensures stays { OnErr result ((self.new.at ≡ self.old.at) × (self.new.line ≡ self.old.line)) }
     {
         let Token::Number(ds) = self.peek() else {
             return Err(self.malformed(0));

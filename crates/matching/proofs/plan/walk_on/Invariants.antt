@@ -1,5 +1,6 @@
-use Rattle.std.proofs.Common.{◌≡◌, ◌+◌, ◌≤◌, ◌++◌, length, drop, filter}
+use Rattle.std.proofs.Common.{◌≡◌, ◌+◌, ◌≤◌, length, drop, filter}
 use Rattle.std.proofs.lemmas.Iterator.{YieldsList}
+use Rattle.orders.specs.Tape.{written}
 use Rattle.matching.specs.Attempt.{trades_of}
 use Rattle.matching.specs.Walk.{walk}
 use Rattle.matching.specs.Listing.{orders_in, meets}
@@ -10,5 +11,6 @@ invariant-loop-o l =
     let all = filter (meets l.fn.skip l.a) (orders_in l.rows) in
     let rest = drop (length l.yielded) all in
     YieldsList (goal.iterator-loop-o).next_gives (λ o. o) l.initial.o-iterator all
-    × (length l.trades.items + length rest ≤ 256)
-    × (l.trades.items ++ trades_of l.a (walk l.left rest) ≡ l.initial.trades.items ++ trades_of l.a (walk l.wanted all))
+    × (l.end + length rest ≤ length l.free)
+    × (written l.end (trades_of l.a (walk l.left rest)) l.free ≡ written l.fn.from (trades_of l.a (walk l.wanted all)) l.initial.free)
+    × (l.end + length (trades_of l.a (walk l.left rest)) ≡ l.fn.from + length (trades_of l.a (walk l.wanted all)))
